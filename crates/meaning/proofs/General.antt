@@ -1,0 +1,66 @@
+-- Numbers and lists in general: what the libraries do not have.
+use mathlib.Core.Path.{_≡_, refl, ap, subst}
+use mathlib.Core.Logic.{_⊎_, inl, inr, ⊎-elim}
+use mathlib.Core.List.{List, [], _∷_}
+use Prim.Native.Nat.{ℕ, zero, suc, _≤_, _<_}
+use native.Mathlib.Omega.{arith}
+use native.Mathlib.Nat.{le-of-suc-le-suc, not-suc-le-zero}
+use native.Mathlib.Decide.{decLt}
+use lib.ListN.{length, getD}
+
+-- two numbers: the first is less, or equal, or greater
+pub compared : (a b : ℕ) → (a < b) ⊎ ((a ≡ b) ⊎ (b < a))
+compared a b =
+    elim (decLt a b) [
+      | yes h ↦ inl h
+      | no h ↦ inr (elim (decLt b a) [ yes k ↦ inr k | no k ↦ inl (omega arith) ])
+    ]
+
+-- a number is below another, or at or past it
+pub below-or-from : (a b : ℕ) → (a < b) ⊎ (b ≤ a)
+below-or-from a b = elim (decLt a b) [ yes h ↦ inl h | no h ↦ inr (omega arith) ]
+
+-- what holds below i, and at i, holds below suc i
+pub below-suc : {P : ℕ → Type 0} (i : ℕ) → ((j : ℕ) → j < i → P j) → P i → (j : ℕ) → j < suc i → P j
+below-suc {P} i all here j h = ⊎-elim (λ l. all j l) (λ l. let q : i ≡ j = omega arith in subst P q here) (below-or-from j i)
+
+-- what holds of some number below suc m holds of one below m, or of m
+pub last-or-below : (P : ℕ → Type 0) (m k : ℕ) → k < suc m → P k → ((k : ℕ) × (k < m) × P k) ⊎ P m
+last-or-below P m k h p = ⊎-elim (λ l. inl (k, l, p)) (λ l. inr (subst P (omega arith) p)) (below-or-from k m)
+
+-- the least number with a property
+abbrev pub Least : (ℕ → Type 0) → Type 0
+Least P = (k : ℕ) × P k × ((j : ℕ) → j < k → P j → ⊥)
+
+-- where the property is decided, there is a least number with it, or no number below m has it
+pub least-below : (P : ℕ → Type 0) → ((k : ℕ) → Dec (P k)) → (m : ℕ) → Least P ⊎ ((k : ℕ) → k < m → P k → ⊥)
+least-below P d zero = inr (λ k h. absurd (omega arith))
+least-below P d (suc m) = go (least-below P d m) (d m)
+  where
+    go : Least P ⊎ ((k : ℕ) → k < m → P k → ⊥) → Dec (P m) → Least P ⊎ ((k : ℕ) → k < suc m → P k → ⊥)
+    go (inl h) e = inl h
+    go (inr none) (yes p) = inl (m, p, none)
+    go (inr none) (no p) = inr (below-suc {P = λ k. P k → ⊥} m none p)
+
+-- so if some number has it, there is a least
+pub least-of : (P : ℕ → Type 0) → ((k : ℕ) → Dec (P k)) → (m : ℕ) → P m → Least P
+least-of P d m p = ⊎-elim (λ h. h) (λ none. absurd (none m (omega arith) p)) (least-below P d (suc m))
+
+-- the list f 0, f 1, .., f (n - 1)
+abbrev pub build : ℕ → (ℕ → ℕ) → List ℕ
+build zero f = []
+build (suc n) f = f 0 ∷ build n (λ v. f (suc v))
+
+pub length-build : (n : ℕ) (f : ℕ → ℕ) → length (build n f) ≡ n
+length-build zero f = refl
+length-build (suc n) f = ap suc (length-build n (λ v. f (suc v)))
+
+pub getD-build : (n : ℕ) (f : ℕ → ℕ) (v : ℕ) → v < n → getD (build n f) v 0 ≡ f v
+getD-build zero f v h = absurd (not-suc-le-zero h)
+getD-build (suc n) f zero h = refl
+getD-build (suc n) f (suc v) h = getD-build n (λ v. f (suc v)) v (le-of-suc-le-suc h)
+
+pub build-le : (n : ℕ) (f : ℕ → ℕ) (b : ℕ) → ((v : ℕ) → f v ≤ b) → (v : ℕ) → getD (build n f) v 0 ≤ b
+build-le zero f b h v = omega arith
+build-le (suc n) f b h zero = h 0
+build-le (suc n) f b h (suc v) = build-le n (λ v. f (suc v)) b (λ v. h (suc v)) v

@@ -1,0 +1,24 @@
+-- The laws of specs/, from numbers up to the theorems. Crates above cite them, so that a definition can change behind them.
+pub mod General
+pub mod AreaLaws
+pub mod CodeLaws
+pub mod OrderLaws
+pub mod ChainLaws
+pub mod Sets
+pub mod Firsts
+pub mod Growing
+pub mod Reaching
+pub mod TwoSat
+pub mod ShortestLaws
+pub mod ChainLength
+pub mod NextLaws
+pub mod Unique
+pub mod RefusalLaws
+pub mod Once
+pub mod Keeping
+pub mod EveryRotaOnce
+pub mod Tests
+pub mod Exists
+pub mod Outcomes
+pub mod Marked
+pub mod IdleEngines

@@ -1,0 +1,114 @@
+-- Sets of codes that steps do not leave: a rota whose true codes lie in such a set is allowed, and such a set grows by all that a code reaches.
+use mathlib.Core.Path.{_≡_, refl, sym, _∙_, subst}
+use mathlib.Core.Logic.{_⊎_, inl, inr, ⊎-elim}
+use mathlib.Core.List.{List, [], _∷_}
+use Prim.Native.Nat.{ℕ, _*_, _<_, min}
+use native.Mathlib.Omega.{arith}
+use lib.ListN.{getD}
+use Rattle.meaning.specs.Chains.{Step, Chain, Reach}
+use Rattle.meaning.specs.Codes.{late, early, opposite, choiceOf, valueOf}
+use Rattle.meaning.specs.Rotas.{True, Met, Rota, Allowed}
+use Rattle.meaning.specs.Rules.{rules, left, right, InRange}
+use Rattle.meaning.proofs.ChainLaws.{reach-step, reach-trans, reach-flip, true-or-opposite}
+use Rattle.meaning.proofs.CodeLaws.{opposite-opposite, opposite-below, choice-below, late-or-early}
+use Rattle.meaning.proofs.General.{build, length-build, getD-build, build-le}
+
+-- no step leaves the set
+abbrev pub Closed : List ℕ → (ℕ → Type 0) → Type 0
+Closed ws S = (a k b : ℕ) → Step ws a k b → S a → S b
+
+-- never a code and its opposite
+abbrev pub Consistent : (ℕ → Type 0) → Type 0
+Consistent S = (c : ℕ) → S c → S (opposite c) → ⊥
+
+-- one code of each of the n choices
+abbrev pub Total : ℕ → (ℕ → Type 0) → Type 0
+Total n S = (v : ℕ) → v < n → S (late v) ⊎ S (early v)
+
+-- every true code of the rota is in the set
+abbrev pub Follows : ℕ → (ℕ → Type 0) → List ℕ → Type 0
+Follows n S r = (c : ℕ) → c < 2 * n → True r c → S c
+
+-- the set that a list of marks stands for: the codes whose mark is not 0
+abbrev pub Marked : List ℕ → ℕ → Type 0
+Marked s c = 0 < getD s c 0
+
+-- the set with all that c reaches
+abbrev pub With : List ℕ → (ℕ → Type 0) → ℕ → ℕ → Type 0
+With ws S c d = S d ⊎ Reach ws c d
+
+module _ (ws : List ℕ) (S : ℕ → Type 0) (closed : Closed ws S) where
+  pub closed-chain : (a : ℕ) (ks : List ℕ) (b : ℕ) → Chain ws a ks b → S a → S b
+  closed-chain a [] b p h = subst S p h
+  closed-chain a (k ∷ ks) b p h = closed-chain (p .0) ks b (p .2) (closed a k (p .0) (p .1) h)
+
+  pub closed-reach : (a b : ℕ) → Reach ws a b → S a → S b
+  closed-reach a b p h = closed-chain a (p .0) b (p .1) h
+
+  -- a rota that follows a closed and consistent set is allowed
+  pub follows-allowed : (n : ℕ) (r : List ℕ) → InRange n ws → Consistent S → Rota n r → Follows n S r → Allowed n ws r
+  follows-allowed n r range cons rota follows = record { rota = rota; met = met }
+    where
+      other : (k : ℕ) → k < rules ws → True r (opposite (left ws k)) → True r (right ws k)
+      other k h t =
+          let inside : S (right ws k) =
+          closed (opposite (left ws k)) k (right ws k)
+          (record { isRule = h; leads = inl (sym (opposite-opposite (left ws k)), refl) })
+          (follows (opposite (left ws k)) (opposite-below n (left ws k) (range k h .0)) t)
+          in
+          ⊎-elim (λ u. u)
+          (λ u. absurd (cons (right ws k) inside (follows (opposite (right ws k)) (opposite-below n (right ws k) (range k h .1)) u)))
+          (true-or-opposite n r rota (right ws k))
+
+      met : (k : ℕ) → k < rules ws → Met ws r k
+      met k h = ⊎-elim (λ t. inl t) (λ t. inr (other k h t)) (true-or-opposite n r rota (left ws k))
+
+  module _ (cons : Consistent S) (c : ℕ) (out : S (opposite c) → ⊥) (free : Reach ws c (opposite c) → ⊥) where
+    pub with-closed : Closed ws (With ws S c)
+    with-closed a k b s h = ⊎-elim (λ i. inl (closed a k b s i)) (λ p. inr (reach-trans ws c a b p (reach-step ws a k b s))) h
+
+    -- what reaches d from c leads back from the opposite of d to the opposite of c
+    back : (d : ℕ) → Reach ws c (opposite d) → Reach ws d (opposite c)
+    back d p = rw (opposite-opposite d) at (reach-flip ws c (opposite d) p)
+
+    pub with-consistent : Consistent (With ws S c)
+    with-consistent d (inl h) (inl k) = cons d h k
+    with-consistent d (inl h) (inr p) = out (closed-reach d (opposite c) (back d p) h)
+    with-consistent d (inr p) (inl k) = out (closed-reach (opposite d) (opposite c) (reach-flip ws c d p) k)
+    with-consistent d (inr p) (inr q) = free (reach-trans ws c d (opposite c) p (back d q))
+
+-- what a code reaches is closed, and consistent if the code does not lead to its opposite
+pub reach-closed : (ws : List ℕ) (c : ℕ) → Closed ws (Reach ws c)
+reach-closed ws c a k b s p = reach-trans ws c a b p (reach-step ws a k b s)
+
+pub reach-consistent : (ws : List ℕ) (c : ℕ) → (Reach ws c (opposite c) → ⊥) → Consistent (Reach ws c)
+reach-consistent ws c free d p q = free (reach-trans ws c d (opposite c) p (rw (opposite-opposite d) at (reach-flip ws c (opposite d) q)))
+
+-- all that the codes of P reach
+abbrev pub Spread : List ℕ → (ℕ → Type 0) → ℕ → Type 0
+Spread ws P d = (c : ℕ) × P c × Reach ws c d
+
+pub spread-closed : (ws : List ℕ) (P : ℕ → Type 0) → Closed ws (Spread ws P)
+spread-closed ws P a k b s h = (h .0, h .1, reach-closed ws (h .0) a k b s (h .2))
+
+pub spread-consistent : (ws : List ℕ) (P : ℕ → Type 0) → ((c d : ℕ) → P c → P d → Reach ws c (opposite d) → ⊥) → Consistent (Spread ws P)
+spread-consistent ws P free e h k =
+    free (h .0) (k .0) (h .1) (k .1) (reach-trans ws (h .0) e (opposite (k .0)) (h .2) (rw (opposite-opposite e) at (reach-flip ws (k .0) (opposite e) (k .2))))
+
+-- the rota that a list of marks stands for: 1 where the choice's late code is marked
+abbrev pub rotaOf : ℕ → List ℕ → List ℕ
+rotaOf n s = build n (λ v. min 1 (getD s (late v) 0))
+
+pub marks-follow : (n : ℕ) (s : List ℕ) → Total n (Marked s) → Follows n (Marked s) (rotaOf n s)
+marks-follow n s total c h t =
+    let v = choiceOf c in
+    let u : min 1 (getD s (late v) 0) ≡ valueOf c = sym (getD-build n (λ v. min 1 (getD s (late v) 0)) v (choice-below n c h)) ∙ t in
+    ⊎-elim (λ e. subst (Marked s) (sym e) (omega arith))
+    (λ e. subst (Marked s) (sym e) (⊎-elim (λ m. omega arith) (λ m. m) (total v (choice-below n c h))))
+    (late-or-early c)
+
+pub marks-allowed : (n : ℕ) (ws s : List ℕ) → InRange n ws → Closed ws (Marked s) → Consistent (Marked s) → Total n (Marked s) → Allowed n ws (rotaOf n s)
+marks-allowed n ws s range closed cons total =
+    follows-allowed ws (Marked s) closed n (rotaOf n s) range cons
+    (record { long = length-build n _; bits = build-le n _ 1 (λ v. omega arith) })
+    (marks-follow n s total)
