@@ -1,0 +1,241 @@
+-- The turns of the loops that look along a list or along the stack: `scan`, `least`, `settle`, `mirror` and `lone`.
+use Prim.Native.Nat.{ℕ, _+_, _-_, _*_, _/_, _≤_, _<_}
+use mathlib.Core.Path.{_≡_, refl, sym, ap, _∙_}
+use mathlib.Core.Logic.{_⊎_, inl, inr, ⊎-elim, _≢_}
+use mathlib.Core.List.{List}
+use native.Mathlib.Omega.{arith}
+use lib.ListN.{length, getD, set}
+use Rattle.components.specs.Leads.{settledRank}
+use Rattle.components.specs.Walk.{Met, Closed, Least, cursor, Nexts, Cursor, Old, Scanned, Stacked, Settled, across, Lone}
+use Rattle.meaning.specs.Chains.{Step}
+use Rattle.meaning.specs.Codes.{opposite}
+use Rattle.moves.specs.Layout.{markAt, mark, trail, next, Tables, Sizes}
+use Rattle.moves.specs.Lists.{FirstEnd}
+use Rattle.components.proofs.Settling.{mirrored}
+use Rattle.components.proofs.Storing.{beyond-refl, beyond-trans, beyond-mark}
+use Rattle.meaning.proofs.CodeLaws.{opposite-below}
+use Rattle.meaning.proofs.General.{below-or-from}
+use Rattle.moves.proofs.Places.{same?, mark-stored, mark-elsewhere}
+use Rattle.moves.proofs.Steps.{end-step, step-to}
+use Rattle.moves.proofs.Visiting.{left-of}
+
+-- the invariant of the loop of `scan`
+pub record Scanning (n : ℕ) (ws W : List ℕ) (a low e : ℕ) : Type 0 where
+  pub pos : 0 < low
+  pub less : low ≤ mark n W a
+  pub why : (low ≡ mark n W a) ⊎ ((z : ℕ) × ((k : ℕ) × Step ws a k z) × (mark n W z ≡ low))
+  pub cur : Cursor ws a e
+  pub seen : (i : ℕ) → i < length ws → getD ws i 0 ≡ opposite a → (e ≡ 0) ⊎ (i + 1 < e) → Old n W a i ⊎ Met n W low (getD ws (opposite i) 0)
+
+-- it holds before the first end
+pub scan-start : {n : ℕ} {ws W : List ℕ} {a low e : ℕ} → 0 < mark n W a → Cursor ws a (cursor n W a) → low ≡ mark n W a → e ≡ cursor n W a
+    → Scanning n ws W a low e
+scan-start {n} {ws} {W} {a} {low} {e} p c ql qe =
+    record {
+      pos = omega arith;
+      less = omega arith;
+      why = inl ql;
+      cur = rw qe c;
+      seen = λ i l q u. inl (rw qe at u);
+    }
+
+-- one place of the list
+module _ {n : ℕ} {ws W : List ℕ} {a low e z e′ : ℕ} (s : Sizes n ws W) (nx : Nexts n ws W) (h : Scanning n ws W a low e) (p : 0 < e)
+    (qz : z ≡ getD ws (opposite (e - 1)) 0) (qe : e′ ≡ next n W (e - 1)) where
+  -- the end is among the words
+  le : e - 1 < length ws
+  le = omega (arith, h .cur .cur p .0)
+
+  -- the list goes on behind it
+  rest : FirstEnd ws (getD ws (e - 1) 0) (e - 1 + 1) e′
+  rest = rw qe (nx .nexts (e - 1) le)
+
+  -- it is a step from a to z
+  pub scan-step : (k : ℕ) × Step ws a k z
+  scan-step = ((e - 1) / 2, end-step s le (h .cur .cur p .1) qz)
+
+  -- the next cursor is in the list
+  pub scan-cursor : Cursor ws a e′
+  scan-cursor = record { cur = λ u. (rest .found u .1, rest .found u .2 ∙ h .cur .cur p .1) }
+
+  -- less of the list is left
+  pub scan-less : left-of e′ < left-of e
+  scan-less =
+      ⊎-elim
+      (λ (q : e′ ≡ 0). omega (arith, s .short, s .even, le))
+      (λ (q : e′ ≢ 0). omega (arith, s .short, s .even, rest .found (omega arith) .0, rest .found (omega arith) .1))
+      (same? e′ 0)
+
+  -- a place that is behind the cursor now: this one, or one behind it before
+  behind : (i : ℕ) → i < length ws → getD ws i 0 ≡ opposite a → (e′ ≡ 0) ⊎ (i + 1 < e′) → (i ≡ e - 1) ⊎ (i + 1 < e)
+  behind i l q u =
+      ⊎-elim
+      (λ (v : i ≡ e - 1). inl v)
+      (λ (v : i ≢ e - 1). ⊎-elim
+      (λ (w : i < e - 1). inr (omega arith))
+      (λ (w : e - 1 ≤ i).
+      let g = rest .hit i (omega arith) l (q ∙ sym (h .cur .cur p .1)) in
+      absurd (⊎-elim (λ (x : e′ ≡ 0). omega (arith, g)) (λ (x : i + 1 < e′). omega (arith, g)) u))
+      (below-or-from i (e - 1)))
+      (same? i (e - 1))
+
+  -- a code that was met is taken into account
+  pub scan-turn : {low′ : ℕ} → low′ ≤ low → 0 < low′ → (low′ ≡ low) ⊎ (low′ ≡ mark n W z) → low′ ≤ mark n W z → Scanning n ws W a low′ e′
+  scan-turn {low′} l0 p0 y l1 =
+      record {
+        pos = p0;
+        less = omega (arith, h .less);
+        why = ⊎-elim
+            (λ (v : low′ ≡ low). rw v (h .why))
+            (λ (v : low′ ≡ mark n W z). inr (z, scan-step, sym v))
+            y;
+        cur = scan-cursor;
+        seen = λ i l q u. ⊎-elim
+            (λ (v : i ≡ e - 1). inr (rw (v, ← qz) (omega arith, l1)))
+            (λ (v : i + 1 < e). ⊎-elim (λ w. inl w) (λ (w : Met n W low (getD ws (opposite i) 0)). inr (w .0, omega (arith, w .1))) (h .seen i l q (inr v)))
+            (behind i l q u);
+      }
+
+  -- at a code that was not met the look stops
+  pub scan-hit : mark n W z ≡ 0 → Scanned n ws W a e′ low (z + 1)
+  scan-hit r0 =
+      let f : z + 1 - 1 ≡ z = omega arith in
+      record {
+        pos = h .pos;
+        less = h .less;
+        why = h .why;
+        cur = scan-cursor;
+        seen = λ i l q u. ⊎-elim
+            (λ (v : i ≡ e - 1). inr (inr (rw (v, ← qz) refl)))
+            (λ (v : i + 1 < e). ⊎-elim (λ w. inl w) (λ (w : Met n W low (getD ws (opposite i) 0)). inr (inl w)) (h .seen i l q (inr v)))
+            (behind i l q u);
+        new = λ u. rw f (step-to s a (scan-step .0) z (scan-step .1), r0, scan-step);
+        end = λ u. absurd (omega arith);
+      }
+
+-- and else at the end of the list
+pub scan-end : {n : ℕ} {ws W : List ℕ} {a low e : ℕ} → Scanning n ws W a low e → e ≤ 0 → Scanned n ws W a 0 low 0
+scan-end {n} {ws} {W} {a} {low} {e} h z =
+    record {
+      pos = h .pos;
+      less = h .less;
+      why = h .why;
+      cur = record { cur = λ u. absurd (omega arith) };
+      seen = λ i l q u. ⊎-elim (λ w. inl w) (λ (w : Met n W low (getD ws (opposite i) 0)). inr (inl w)) (h .seen i l q (inl (omega arith)));
+      new = λ u. absurd (omega arith);
+      end = λ u. refl;
+    }
+
+-- `least`: one place more
+pub least-one : (s : ℕ → ℕ) (d l : ℕ) → l ≡ s d → Least s d (d + 1) l
+least-one s d l e =
+    record {
+      at = (d, omega arith, omega arith, sym e);
+      less = λ p a b.
+          let q : p ≡ d = omega arith in
+          rw q (omega arith);
+    }
+
+-- and with one place more
+pub least-more : {s : ℕ → ℕ} {d p l l′ : ℕ} → d ≤ p → Least s d p l → l′ ≤ l → l′ ≤ s p → (l′ ≡ l) ⊎ (l′ ≡ s p) → Least s d (p + 1) l′
+least-more {s} {d} {p} {l} {l′} dp h a b c =
+    record {
+      at = ⊎-elim
+          (λ (e : l′ ≡ l). (h .at .0, h .at .1, omega (arith, h .at .2), h .at .3 ∙ sym e))
+          (λ (e : l′ ≡ s p). (p, dp, omega arith, sym e))
+          c;
+      less = λ q u v. ⊎-elim (λ (e : q ≡ p). rw e b) (λ (e : q ≢ p). omega (arith, h .less q u (omega arith))) (same? q p);
+    }
+
+-- `settle` and `mirror`: one place more
+pub settle-none : (n : ℕ) (g : ℕ → ℕ) (d v : ℕ) (W : List ℕ) → Settled n g d d v W W
+settle-none n g d v W = record { beyond = beyond-refl n W; new = λ p a b. absurd (omega arith); old = λ x l f. refl }
+
+-- one place more has the rank
+pub settle-more : {n d p v x : ℕ} {g : ℕ → ℕ} {W₀ W W′ : List ℕ} → Tables n W₀ → d ≤ p → x < 2 * n → x ≡ g p → W′ ≡ set W (markAt n x) v → Settled n g d p v W₀ W
+    → Settled n g d (p + 1) v W₀ W′
+settle-more {n} {d} {p} {v} {x} {g} {W₀} {W} {W′} room dp lx here qw h =
+    rw qw (record {
+      beyond = beyond-trans (h .beyond) (beyond-mark n W x v lx);
+      new = λ q a b. ⊎-elim
+          (λ (e : g q ≡ x). rw e stored)
+          (λ (e : g q ≢ x).
+          let f : q ≢ p = λ f. e (ap g f ∙ sym here) in
+          mark-elsewhere n W x v lx fits (g q) e ∙ h .new q a (omega arith))
+          (same? (g q) x);
+      old = λ y l f.
+          mark-elsewhere n W x v lx fits y (λ e. f p dp (omega arith) (sym here ∙ sym e)) ∙ h .old y l (λ q a b. f q a (omega arith));
+    })
+  where
+    fits : Tables n W
+    fits = omega (arith, h .beyond .long)
+
+    stored : mark n (set W (markAt n x) v) x ≡ v
+    stored = mark-stored n W x v lx fits
+
+-- the invariant of the loop of `lone`
+pub record Loning (n d t : ℕ) (W : List ℕ) (l p : ℕ) : Type 0 where
+  pub from : d ≤ p
+  pub to : p ≤ t
+  pub at : (q : ℕ) × (d ≤ q) × (q < t) × (across n W q ≡ l)
+  pub less : (q : ℕ) → d ≤ q → q < p → l ≤ across n W q
+  pub unmet : (q : ℕ) → d ≤ q → q < p → mark n W (across n W q) ≡ 0
+
+-- one opposite more was not met
+pub lone-more : {n d t l p l′ : ℕ} {W : List ℕ} → p < t → Loning n d t W l p → mark n W (across n W p) ≡ 0 → l′ ≤ l → l′ ≤ across n W p → (l′ ≡ l) ⊎ (l′ ≡ across n W p)
+    → Loning n d t W l′ (p + 1)
+lone-more {n} {d} {t} {l} {p} {l′} {W} pt h z a b c =
+    record {
+      from = omega (arith, h .from);
+      to = omega arith;
+      at = ⊎-elim
+          (λ (e : l′ ≡ l). (h .at .0, h .at .1, h .at .2, h .at .3 ∙ sym e))
+          (λ (e : l′ ≡ across n W p). (p, h .from, pt, sym e))
+          c;
+      less = λ q u v. ⊎-elim (λ (e : q ≡ p). rw e b) (λ (e : q ≢ p). omega (arith, h .less q u (omega arith))) (same? q p);
+      unmet = λ q u v. ⊎-elim (λ (e : q ≡ p). rw e z) (λ (e : q ≢ p). h .unmet q u (omega arith)) (same? q p);
+    }
+
+-- at the end that holds of all
+pub lone-done : {n d t l p : ℕ} {W : List ℕ} → Loning n d t W l p → t ≤ p → Lone n d t W (l + 1)
+lone-done {n} {d} {t} {l} {p} {W} h u =
+    let e : l + 1 - 1 ≡ l = omega arith in
+    record {
+      least = λ v. rw e (record { at = h .at; less = λ q a b. h .less q a (omega arith) });
+      unmet = λ v q a b. h .unmet q a (omega arith);
+    }
+
+-- it is 1 more than a code
+pub lone-small : {n d t o : ℕ} {W : List ℕ} → Stacked n W t → Lone n d t W o → 0 < o → o ≤ 2 * n
+lone-small {n} {d} {t} {o} {W} s h p =
+    let at = h .least p .at in
+    omega (arith, at .3, opposite-below n (trail n W (at .0)) (s .codes (at .0) (at .2)))
+
+-- `close`: the codes at the top are settled, alone or with their opposites
+pub closed-alone : {n d t l v : ℕ} {W W′ : List ℕ} → Least (trail n W) d t l → v ≡ settledRank n l → Settled n (trail n W) d t v W W′ → Closed n d t W W′
+closed-alone {n} {d} {t} {l} {v} {W} {W′} a q b =
+    record {
+      mid = W′;
+      small = l;
+      mirrored = 0;
+      least = a;
+      settled = rw q at b;
+      lone = record { least = λ p. absurd (omega arith); unmet = λ p. absurd (omega arith) };
+      keeps = λ z. refl;
+      mirrors = λ p. absurd (omega arith);
+    }
+
+pub closed-both : (m : ℕ) {n d t l v u : ℕ} {W M W′ : List ℕ} → Least (trail n W) d t l → v ≡ settledRank n l → Settled n (trail n W) d t v W M
+    → Lone n d t M (m + 1) → u ≡ settledRank n m → Settled n (across n M) d t u M W′ → Closed n d t W W′
+closed-both m {n} {d} {t} {l} {v} {u} {W} {M} {W′} a q b o q′ c =
+    let e : u ≡ 2 * n + (m + 1) = omega arith in
+    record {
+      mid = M;
+      small = l;
+      mirrored = m + 1;
+      least = a;
+      settled = rw q at b;
+      lone = o;
+      keeps = λ z. absurd (omega arith);
+      mirrors = λ p. rw e at c;
+    }
