@@ -1,0 +1,90 @@
+-- Demand 3, of the engine itself: a call of `decide` and then calls of `next` until it ends list every allowed rota, each once, in dictionary order, and no other.
+-- A call is here all that the function's own contract tells its caller, and nothing more.
+use mathlib.Core.Path.{_≡_}
+use mathlib.Core.List.{List, [], _∷_}
+use Prim.Native.Nat.{ℕ}
+use lib.ListN.{take}
+use borrow.Fn.World.{ArgsD}
+use contract.Lifetimes.{Lfts}
+use denote.Ref.{now}
+use denote.Triple.Clauses.{AtExit}
+use Rattle.meaning.specs.declared.answers.Decided.{Decided}
+use Rattle.meaning.specs.declared.answers.Moved.{Moved}
+use Rattle.meaning.specs.Promises.{Decides, Moves}
+use Rattle.meaning.specs.Runs.{GoesOn, EveryRota}
+use Rattle.meaning.proofs.EveryRotaOnce.{every-rota-once}
+use Rattle.engine.proofs.decide as decide
+use Rattle.engine.proofs.decide.Reads as decide-reads
+use Rattle.engine.proofs.next as next
+use Rattle.engine.proofs.next.Reads as next-reads
+
+-- a call with n, ws and two areas, which leaves area′ and work′ in them
+pub record Lends (κs : Lfts 3) (args : ArgsD decide.signature κs) (exits : AtExit decide.ended κs) (n : ℕ) (ws area work area′ work′ : List ℕ) : Type 0 where
+  pub isCount : args .0 ≡ n
+  pub isWords : now (args .1 .0) ≡ ws
+  pub isArea : now (args .1 .1 .0) ≡ area
+  pub isWork : now (args .1 .1 .1 .0) ≡ work
+  pub areaAfter : now (exits .1 .1 .0) ≡ area′
+  pub workAfter : now (exits .1 .1 .1 .0) ≡ work′
+
+-- `decide` was called, and answered r
+pub record DecideCall (n : ℕ) (ws area work : List ℕ) (r : Decided) (area′ work′ : List ℕ) : Type 1 where
+  pub κs : Lfts 3
+  pub args : ArgsD decide.signature κs
+  pub exits : AtExit decide.ended κs
+  pub lends : Lends κs args exits n ws area work area′ work′
+  pub told : decide-reads.Learnt κs args r exits
+
+-- and so `next`
+pub record NextCall (n : ℕ) (ws area work : List ℕ) (r : Moved) (area′ work′ : List ℕ) : Type 1 where
+  pub κs : Lfts 3
+  pub args : ArgsD next.signature κs
+  pub exits : AtExit next.ended κs
+  pub lends : Lends κs args exits n ws area work area′ work′
+  pub told : next-reads.Learnt κs args r exits
+
+-- what is told of the arguments and exits is told of what they are
+tells : {A : Type 0} (P : ℕ → List ℕ → List ℕ → List ℕ → A → List ℕ → List ℕ → Type 0) (r : A) (κs : Lfts 3) (args : ArgsD decide.signature κs)
+    (exits : AtExit decide.ended κs) {n : ℕ} {ws area work area′ work′ : List ℕ} → Lends κs args exits n ws area work area′ work′ →
+    P (args .0) (now (args .1 .0)) (now (args .1 .1 .0)) (now (args .1 .1 .1 .0)) r (now (exits .1 .1 .0)) (now (exits .1 .1 .1 .0)) → P n ws area work r area′ work′
+tells P r κs args exits l p = rw (l .isCount, l .isWords, l .isArea, l .isWork, l .areaAfter, l .workAfter) at p
+
+-- each keeps its promise
+pub decide-keeps : {n : ℕ} {ws area work : List ℕ} {r : Decided} {area′ work′ : List ℕ} → DecideCall n ws area work r area′ work′ → Decides n ws area work r area′ work′
+decide-keeps {r = r} c = tells Decides r (c .κs) (c .args) (c .exits) (c .lends) (c .told)
+
+pub next-keeps : {n : ℕ} {ws area work : List ℕ} {r : Moved} {area′ work′ : List ℕ} → NextCall n ws area work r area′ work′ → Moves n ws area work r area′ work′
+next-keeps {r = r} c = tells Moves r (c .κs) (c .args) (c .exits) (c .lends) (c .told)
+
+-- `next` is called again and again on the rota's area, with any work area each time: it leaves the rotas rs there, one after the other, and then ends
+abbrev pub NextCalls : ℕ → List ℕ → List ℕ → List (List ℕ) → Type 1
+NextCalls n ws area [] = (work area′ work′ : List ℕ) × NextCall n ws area work Moved.Ended area′ work′
+NextCalls n ws area (r ∷ rs) = (work area′ work′ : List ℕ) × NextCall n ws area work Moved.Moved area′ work′ × (take n area′ ≡ r) × NextCalls n ws area′ rs
+
+-- the rotas that `decide` and `next` leave
+pub record EngineRun (n : ℕ) (ws r : List ℕ) (rs : List (List ℕ)) : Type 1 where
+  pub area : List ℕ
+  pub work : List ℕ
+  pub area′ : List ℕ
+  pub work′ : List ℕ
+  pub decided : DecideCall n ws area work Decided.Possible area′ work′
+  pub first : take n area′ ≡ r
+  pub nexts : NextCalls n ws area′ rs
+
+calls-go-on : (n : ℕ) (ws area : List ℕ) (rs : List (List ℕ)) → NextCalls n ws area rs → GoesOn n ws area rs
+calls-go-on n ws area [] c = (c .0, c .1, c .2, next-keeps (c .3))
+calls-go-on n ws area (r ∷ rs) c = (c .0, c .1, c .2, next-keeps (c .3), c .4, calls-go-on n ws (c .1) rs (c .5))
+
+-- demand 3
+pub engine-lists-every-rota : (n : ℕ) (ws r : List ℕ) (rs : List (List ℕ)) → EngineRun n ws r rs → EveryRota n ws (r ∷ rs)
+engine-lists-every-rota n ws r rs c =
+    every-rota-once n ws r rs
+    (record {
+      area = c .area;
+      work = c .work;
+      area′ = c .area′;
+      work′ = c .work′;
+      decided = decide-keeps (c .decided);
+      first = c .first;
+      goesOn = calls-go-on n ws (c .area′) rs (c .nexts);
+    })

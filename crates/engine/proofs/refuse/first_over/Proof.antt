@@ -1,0 +1,60 @@
+-- `first_over` meets its contract: every word that was passed is below the limit.
+use Rattle.engine.proofs.refuse.first_over.Statement.{statement}
+use Rattle.engine.proofs.refuse.first_over.Tie as tie
+use mathlib.Core.Path.{sym}
+use Prim.Native.Nat.{ℕ, _-_, _≤_, _<_}
+use native.Mathlib.Omega.{arith}
+use borrow.Author.Needs.{needs}
+use borrow.Author.Count.{below-more}
+use denote.Ref.{now}
+use lib.ListN.{length, getD}
+use Rattle.meaning.proofs.RefusalLaws.{first-over}
+
+abbrev Inv-loop : tie.InvT-loop
+Inv-loop words limit i₀ i = (i ≤ length words) × ((j : ℕ) → j < i → getD words j 0 < limit)
+
+abbrev μ-loop : tie.MeasureT-loop
+μ-loop words limit i₀ i = length words - i
+
+loop-holds : tie.Need-loop-holds Inv-loop μ-loop
+loop-holds c = (omega arith, λ j h. absurd (omega arith))
+
+mul-wide : tie.Need-mul-wide Inv-loop μ-loop
+mul-wide c = omega arith
+
+shared-slice-read-wide : tie.Need-shared-slice-read-wide Inv-loop μ-loop
+shared-slice-read-wide c = omega arith
+
+wide-requires : tie.Need-wide-requires Inv-loop μ-loop
+wide-requires c κs = search needs
+
+returns : tie.Need-returns Inv-loop μ-loop
+returns c = sym (first-over ((c .before .before .before .before .before .before .args) .limit) ((c .before .before .before .before .before .before .args) .words .now) ((c .before .before .before .before .loop) .i) ((c .before .before .before .before .loop) .inv .0) ((c .before .before .before .before .loop) .inv .1) (λ h. omega (arith, (c .before .wide) .ensures)))
+
+add-i : tie.Need-add-i Inv-loop μ-loop
+add-i c = omega arith
+
+loop-less : tie.Need-loop-less Inv-loop μ-loop
+loop-less c = omega arith
+
+loop-again : tie.Need-loop-again Inv-loop μ-loop
+loop-again c = (omega arith, below-more _ _ ((c .before .before .before .before .loop) .inv .1) (omega (arith, (c .before .wide) .ensures)))
+
+returns-2 : tie.Need-returns-2 Inv-loop μ-loop
+returns-2 c = sym (first-over ((c .before .before .before .args) .limit) ((c .before .before .before .args) .words .now) ((c .before .loop) .i) ((c .before .loop) .inv .0) ((c .before .loop) .inv .1) (λ h. absurd (omega arith)))
+
+pub first-over-spec : {M : Type 1} → statement M
+first-over-spec =
+    tie.close
+    (tie.spec
+    Inv-loop
+    μ-loop
+    loop-holds
+    mul-wide
+    shared-slice-read-wide
+    wide-requires
+    returns
+    add-i
+    loop-less
+    loop-again
+    returns-2)

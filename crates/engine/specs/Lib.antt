@@ -1,0 +1,6 @@
+-- What the contracts of the engine's inner functions cite. Nobody has to believe them: the calls' promises stand in crate meaning.
+pub mod Checked
+pub mod State
+pub mod Search
+pub mod Forcing
+pub mod Replay

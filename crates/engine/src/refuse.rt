@@ -1,0 +1,91 @@
+// Refusals come before anything is written, in the order that the promises name. Codes are checked in one pass for the highest, which is
+// cheap, and only a list that is refused is searched for the place.
+use crate::areas::work_needs;
+use meaning::Choice;
+use meaning::Refusal;
+use meaning::RuleNo;
+ghost use mathlib.Core.Path.{_≡_};
+ghost use Prim.Native.Nat.{ℕ, _≤_, _<_};
+ghost use lib.ListN.{length, getD};
+ghost use Rattle.meaning.specs.Refusals.{firstOver, listDue};
+ghost use Rattle.engine.specs.Checked.{checkedRefusal};
+
+pub(crate) enum Checked {
+    Fine,
+    Refused(Refusal),
+}
+
+fn higher(a: u16, b: u16) -> u16
+    ensures { λ r. ⌜ (a ≤ r) × (b ≤ r) ⌝ }
+{
+    if a < b { b } else { a }
+}
+
+// A number that no word is over.
+fn highest(words: &[u16]) -> u16
+    ensures { λ r. ⌜ ((i : ℕ) → i < length (now (words .entry)) → getD (now (words .entry)) i 0 ≤ r) ⌝ }
+{
+    let mut top = 0;
+    let mut i = 0;
+    while i < words.len() {
+        top = higher(top, words[i]);
+        i += 1;
+    }
+    top
+}
+
+fn wide(x: u16) -> usize
+    ensures { λ r. ⌜ r ≡ x ⌝ }
+{
+    x as usize
+}
+
+// The place of the first word that is limit or more, or the length.
+fn first_over(words: &[u16], limit: usize) -> usize
+    ensures { λ r. ⌜ r ≡ firstOver limit (now (words .entry)) ⌝ }
+{
+    let mut i = 0;
+    while i < words.len() {
+        if limit <= wide(words[i]) {
+            return i;
+        }
+        i += 1;
+    }
+    i
+}
+
+fn code_too_high(words: &[u16], limit: usize) -> usize
+    ensures { λ r. ⌜ r ≡ firstOver limit (now (words .entry)) ⌝ }
+{
+    if wide(highest(words)) < limit {
+        return words.len();
+    }
+    first_over(words, limit)
+}
+
+// What is due in a call that has `area` items for its answer, of which it needs `needs`, and `work` words of work.
+pub(crate) fn refuse(n: usize, words: &[u16], area: usize, needs: usize, work: usize) -> Checked
+    ensures { λ r. ⌜ checkedRefusal r ≡ listDue n (now (words .entry)) area needs work ⌝ }
+{
+    let count = words.len();
+    if Choice::LIMIT < n {
+        return Checked::Refused(Refusal::TooManyChoices(0));
+    }
+    if count % 2 == 1 {
+        return Checked::Refused(Refusal::OddWords(0));
+    }
+    if RuleNo::LIMIT < count / 2 {
+        return Checked::Refused(Refusal::TooManyRules(0));
+    }
+    if area < needs {
+        return Checked::Refused(Refusal::AnswerTooShort(0));
+    }
+    if work < work_needs(n, words) {
+        return Checked::Refused(Refusal::WorkTooShort(0));
+    }
+    let at = code_too_high(words, 2 * n);
+    if at < count {
+        return Checked::Refused(Refusal::CodeTooHigh(at));
+    }
+    Checked::Fine
+}
