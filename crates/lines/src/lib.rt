@@ -1,0 +1,11 @@
+// The printing library: from a book's bytes to the lines that answer it. What the text is stands in specs/, apart from
+// the writers.
+mod answer; // the book read, the list answered
+mod fields; // bytes, numbers and values, each put at a place of the area
+mod text; // the lines of each answer
+
+pub use answer::Shown;
+pub use answer::show;
+
+// The least length of the area that the text is written to: no text is longer.
+pub const ROOM: usize = 5200;
