@@ -1,0 +1,39 @@
+-- What the host's two calls promise. The host lends the book's bytes and the rota's bytes; the room for words and work is the call's own.
+use mathlib.Core.Path.{_≡_}
+use mathlib.Core.Logic.{_⊎_}
+use mathlib.Core.List.{List}
+use Prim.Native.Nat.{ℕ}
+use lib.ListN.{replicate}
+use Rattle.meaning.specs.declared.refusal.Refusal.{Refusal}
+use Rattle.book.specs.Checks.{choicesIn, codesIn, bookDue}
+use Rattle.meaning.specs.Promises.{Decides, Moves}
+use Rattle.meaning.specs.Refusals.{numberOf, none, asDue}
+use Rattle.thwartpin.specs.Numbers.{hostDecided, hostMoved}
+
+-- the room for words and for work: what the largest list takes
+abbrev pub hostWords : ℕ
+hostWords = 4096
+
+abbrev pub hostWork : ℕ
+hostWork = 14352
+
+-- the book is refused: the rota stays
+pub record Turned (book rota : List ℕ) (r : ℕ) (rota′ : List ℕ) : Type 0 where
+  pub refusal : Refusal
+  pub due : bookDue book hostWords ≡ asDue refusal
+  pub number : r ≡ numberOf refusal
+  pub stays : rota′ ≡ rota
+
+-- the book is good: the call's promise is kept on its list, with the host's rota and a work area of zeros
+pub record Called {A : Type 0} (number : A → ℕ) (promise : ℕ → List ℕ → List ℕ → List ℕ → A → List ℕ → List ℕ → Type 0) (book rota : List ℕ) (r : ℕ) (rota′ : List ℕ) : Type 0 where
+  pub good : bookDue book hostWords ≡ none
+  pub answer : A
+  pub work′ : List ℕ
+  pub kept : promise (choicesIn book) (codesIn book) rota (replicate hostWork 0) answer rota′ work′
+  pub numbered : r ≡ number answer
+
+abbrev pub HostDecides : List ℕ → List ℕ → ℕ → List ℕ → Type 0
+HostDecides book rota r rota′ = Turned book rota r rota′ ⊎ Called hostDecided Decides book rota r rota′
+
+abbrev pub HostMoves : List ℕ → List ℕ → ℕ → List ℕ → Type 0
+HostMoves book rota r rota′ = Turned book rota r rota′ ⊎ Called hostMoved Moves book rota r rota′
