@@ -6,7 +6,9 @@ pub mod Outcomes
 pub mod GivenLists
 pub mod SavedBooks
 pub mod Places
+pub mod BookLength
 pub mod ListedBooks
+pub mod Examples
 pub mod NumberWays
 pub mod CodesWays
 pub mod ReaderWays

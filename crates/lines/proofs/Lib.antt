@@ -6,3 +6,4 @@ pub mod Lengths
 pub mod Telling
 pub mod Outcomes
 pub mod WrittenOut
+pub mod Examples

@@ -4,6 +4,7 @@ pub mod AreaLaws
 pub mod CodeLaws
 pub mod OrderLaws
 pub mod ChainLaws
+pub mod RuleLaws
 pub mod Sets
 pub mod Firsts
 pub mod Growing
@@ -22,3 +23,4 @@ pub mod Exists
 pub mod Outcomes
 pub mod Marked
 pub mod IdleEngines
+pub mod Examples

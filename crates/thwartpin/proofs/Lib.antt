@@ -4,3 +4,4 @@ pub mod Hosting
 pub mod Once
 pub mod Exists
 pub mod Staying
+pub mod Examples
