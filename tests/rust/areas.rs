@@ -1,8 +1,19 @@
 //! The lent areas of one call, a guard zone at both ends of each, and the whole of them compared with what the call had to leave there.
 
 use crate::random::Random;
+use std::sync::atomic::{AtomicUsize, Ordering};
 
-const GUARD: usize = 8;
+/// How many items a guard zone has.
+static GUARD: AtomicUsize = AtomicUsize::new(8);
+
+/// From here on an area ends where its memory does, so that a checker of memory sees an access past it, also one that only reads.
+pub fn drop_guards() {
+    GUARD.store(0, Ordering::Relaxed);
+}
+
+fn guard() -> usize {
+    GUARD.load(Ordering::Relaxed)
+}
 
 /// An item of an area: a byte, a word of 16 bits, or a value of `out`.
 pub trait Item: Copy + PartialEq + std::fmt::Debug {
@@ -38,7 +49,7 @@ pub struct Lent<T> {
 
 impl<T: Item> Lent<T> {
     pub fn noise(len: usize, random: &mut Random) -> Self {
-        let all = (0..len + 2 * GUARD).map(|_| T::of(random.bits())).collect();
+        let all = (0..len + 2 * guard()).map(|_| T::of(random.bits())).collect();
         Lent { all, len, null: len == 0 && random.one_in(2) }
     }
 
@@ -50,7 +61,7 @@ impl<T: Item> Lent<T> {
 
     pub fn put(&mut self, items: &[T]) {
         assert!(items.len() <= self.len, "an expected answer is longer than its area");
-        self.all[GUARD..GUARD + items.len()].copy_from_slice(items);
+        self.all[guard()..guard() + items.len()].copy_from_slice(items);
     }
 
     pub fn len(&self) -> usize {
@@ -61,7 +72,7 @@ impl<T: Item> Lent<T> {
         if self.null {
             std::ptr::null()
         } else {
-            self.all[GUARD..].as_ptr()
+            self.all[guard()..].as_ptr()
         }
     }
 
@@ -69,7 +80,7 @@ impl<T: Item> Lent<T> {
         if self.null {
             std::ptr::null_mut()
         } else {
-            self.all[GUARD..].as_mut_ptr()
+            self.all[guard()..].as_mut_ptr()
         }
     }
 
@@ -79,7 +90,7 @@ impl<T: Item> Lent<T> {
             return None;
         }
         let at = self.all.iter().zip(&want.all).position(|(got, want)| got != want)?;
-        let place = at as i64 - GUARD as i64;
+        let place = at as i64 - guard() as i64;
         Some(format!("{name}[{place}] of {}: got {:?}, want {:?}", self.len, self.all[at], want.all[at]))
     }
 }

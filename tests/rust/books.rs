@@ -200,13 +200,22 @@ const TELLING: [u8; 14] = [0, 1, 2, 3, 4, 5, 0x0f, 0x10, 0x11, 0x7f, 0x80, 0x81,
 pub fn short_books(tally: &mut Tally) {
     hold_book(tally, &[]);
     (0..=255).for_each(|byte| hold_book(tally, &[byte]));
-    (0..=u16::MAX).for_each(|bytes| hold_book(tally, &bytes.to_le_bytes()));
+    (0..=u16::MAX).for_each(|bytes| two_bytes(tally, bytes));
     for len in 3..=5 {
         (0..TELLING.len().pow(len)).for_each(|book| telling_book(tally, book, len));
     }
 }
 
+fn two_bytes(tally: &mut Tally, bytes: u16) {
+    if tally.takes() {
+        hold_book(tally, &bytes.to_le_bytes());
+    }
+}
+
 fn telling_book(tally: &mut Tally, book: usize, len: u32) {
+    if !tally.takes() {
+        return;
+    }
     let bytes: Vec<u8> = (0..len).map(|at| TELLING[book / TELLING.len().pow(at) % TELLING.len()]).collect();
     let room = tally.random.below(6);
     hold_read(tally, &bytes, room, 3);
@@ -260,17 +269,23 @@ fn damage_byte(tally: &mut Tally, book: &[u8], at: usize) {
     let mut damaged = book.to_vec();
     for change in 1..=255 {
         damaged[at] = book[at] ^ change;
-        hold_damaged(tally, &damaged);
+        hold_some(tally, &damaged);
     }
     damaged.remove(at);
-    hold_damaged(tally, &damaged);
+    hold_some(tally, &damaged);
 }
 
 fn put_in(tally: &mut Tally, book: &[u8], at: usize) {
     for byte in TELLING {
         let mut damaged = book.to_vec();
         damaged.insert(at, byte);
-        hold_damaged(tally, &damaged);
+        hold_some(tally, &damaged);
+    }
+}
+
+fn hold_some(tally: &mut Tally, book: &[u8]) {
+    if tally.takes() {
+        hold_damaged(tally, book);
     }
 }
 
@@ -281,7 +296,7 @@ fn hold_damaged(tally: &mut Tally, book: &[u8]) {
 }
 
 pub fn random_books(tally: &mut Tally, rounds: usize) {
-    for _ in 0..rounds {
+    for _ in 0..tally.part(rounds) {
         let (len, high) = (tally.random.below(24), tally.random.pick(&[4, 16, 128, 256]));
         let mut book: Vec<u8> = (0..len).map(|_| tally.random.below(high) as u8).collect();
         // A small n and m let the reader get as far as the codes.
@@ -292,7 +307,7 @@ pub fn random_books(tally: &mut Tally, rounds: usize) {
 
 /// Books of full size: the longest legal one has 8,196 bytes.
 pub fn long_books(tally: &mut Tally, rounds: usize) {
-    for round in 0..rounds {
+    for round in 0..tally.part(rounds) {
         let narrow = lists::wide(&mut tally.random, 192, round % 4 == 0);
         let words = narrow.words.chunks(2).cycle().take(2048).flatten().map(|&code| code + 128).collect();
         let book = encode(&List { n: 256, words });

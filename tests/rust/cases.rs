@@ -80,11 +80,23 @@ pub struct Tally {
     pub failed: u64,
     pub items: u64,
     pub spoil: Option<Spoil>,
+    /// One in so many lists and books is taken.
+    pub one_in: usize,
 }
 
 impl Tally {
     pub fn new(seed: u64) -> Self {
-        Tally { random: Random::new(seed), passed: 0, failed: 0, items: 0, spoil: None }
+        Tally { random: Random::new(seed), passed: 0, failed: 0, items: 0, spoil: None, one_in: 1 }
+    }
+
+    /// Whether the next list or book is taken.
+    pub fn takes(&mut self) -> bool {
+        self.one_in == 1 || self.random.one_in(self.one_in)
+    }
+
+    /// The part of so many rounds that is taken, one at least.
+    pub fn part(&self, rounds: usize) -> usize {
+        (rounds / self.one_in).max(1)
     }
 
     pub fn hold(&mut self, case: &Case, answers: Option<&Answers>) {

@@ -9,7 +9,7 @@ const FAULTS: [u32; 8] = [200, 1, 2, 3, 6, 5, 4, 11];
 const CALLS: [Call; 5] = [Call::Decide, Call::Forced, Call::Clash, Call::Next, Call::Ties];
 
 pub fn every_set_of_faults(tally: &mut Tally, rounds: usize) {
-    for round in 0..rounds {
+    for round in 0..tally.part(rounds) {
         (0..1 << FAULTS.len()).for_each(|set| CALLS.iter().for_each(|&call| faults(tally, call, set, round)));
     }
 }

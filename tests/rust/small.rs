@@ -34,6 +34,9 @@ fn answers(n: usize, words: &[u16]) -> Option<Answers> {
 
 /// All calls with areas just long enough and longer, and Next from every rota, values over 1 included.
 fn every_call(tally: &mut Tally, n: usize, words: &[u16]) {
+    if !tally.takes() {
+        return;
+    }
     let answers = answers(n, words);
     check_chains(answers.as_ref());
     for spare in SPARE {
@@ -64,7 +67,7 @@ fn check_chains(answers: Option<&Answers>) {
 }
 
 pub fn random_lists(tally: &mut Tally, rounds: usize) {
-    for round in 0..rounds {
+    for round in 0..tally.part(rounds) {
         KINDS.iter().for_each(|(_, kind)| random_list(tally, round % 13, *kind));
     }
 }
@@ -111,7 +114,7 @@ fn agree(list: &List, answers: &Answers) {
 
 /// Up to 256 choices and 2,048 rules, answered block by block.
 pub fn wide_lists(tally: &mut Tally, rounds: usize) {
-    for round in 0..rounds {
+    for round in 0..tally.part(rounds) {
         let n = if round % 4 == 0 { 256 } else { tally.random.between(13, 256) };
         let list = lists::wide(&mut tally.random, n, round % 5 == 0);
         let answers = Answers::by_blocks(&list);
@@ -130,9 +133,10 @@ fn wide_next(tally: &mut Tally, answers: &Answers) {
     }
 }
 
-/// The longest chains that there are, up to 256 choices.
+/// The longest chains that there are, up to 256 choices. What is expected of the widest takes long to work out, so that a part goes without them.
 pub fn longest_chains(tally: &mut Tally) {
-    for n in [1, 2, 3, 12, 13, 64, 255, 256] {
+    let widest = if tally.one_in == 1 { 256 } else { 64 };
+    for n in [1, 2, 3, 12, 13, 64, 255, 256].into_iter().filter(|&n| n <= widest) {
         let list = lists::longest(&mut tally.random, n);
         let answers = Answers::by_clash(&list);
         plain_calls(tally, n, &list.words, Some(&answers), 0);
@@ -142,7 +146,7 @@ pub fn longest_chains(tally: &mut Tally) {
 
 /// As many rules as a list may have, on few choices.
 pub fn most_rules(tally: &mut Tally, rounds: usize) {
-    for round in 0..rounds {
+    for round in 0..tally.part(rounds) {
         let n = 1 + round % 12;
         let few = lists::list(&mut tally.random, n, KINDS[round % KINDS.len()].1);
         let words: Vec<u16> = few.words.chunks(2).cycle().take(2048).flatten().copied().collect();
