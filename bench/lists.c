@@ -280,6 +280,14 @@ const Kind kinds[] = {
 
 const size_t kinds_count = sizeof kinds / sizeof *kinds;
 
+static void nothing(List *list, Dice *dice)
+{
+    (void)list;
+    (void)dice;
+}
+
+const Kind no_rules = {"no rules", 1, nothing};
+
 void make_list(const Kind *kind, int sample, List *list)
 {
     Dice dice = {.state = (uint64_t)sample};

@@ -33,6 +33,9 @@ typedef struct {
 extern const Kind kinds[];
 extern const size_t kinds_count;
 
+/* The list that asks for nothing: what is left of a time is the way to the call and back. */
+extern const Kind no_rules;
+
 void make_list(const Kind *kind, int sample, List *list);
 
 #endif

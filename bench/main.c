@@ -1,22 +1,23 @@
 /*
- * The engine beside plain C, in one run: for each kind of list and each call the median time of both sides and their ratio.
+ * The engine beside plain C and beside SAT solvers, in one run: for each kind of list and each call the ratio of the median times of the two
+ * sides, and the same of a process that calls Decide and each solver's (solvers.h).
  *
  * The two sides take turns, batch by batch, and change who goes first, so that whatever else the machine does meets both alike. Before
  * anything is timed the two answers are compared, with every byte and word of the areas; a time for a wrong answer is worth nothing, so
  * a difference ends the run. Next is timed on a walk: the first 1,000 rotas of a list, or all there are and the call that says so.
  */
-#define _POSIX_C_SOURCE 200809L
-
-#include <math.h>
 #include <stdio.h>
 #include <stdlib.h>
 #include <string.h>
-#include <time.h>
 
-#include "calls.h"
 #include "../include/thwartpin.h"
+#include "calls.h"
+#include "dimacs.h"
+#include "solvers.h"
+#include "table.h"
+#include "timing.h"
 
-enum { WALK = 1000, MOST_TURNS = 201, SPOILED = 5000 };
+enum { WALK = 1000, SPOILED = 5000, PATH_LIMIT = 512 };
 
 static const Side engine = {.decide = thwartpin_list_decide,
                             .forced = thwartpin_list_forced,
@@ -24,26 +25,15 @@ static const Side engine = {.decide = thwartpin_list_decide,
                             .next = thwartpin_list_next,
                             .ties = thwartpin_list_ties};
 
-/* How long to measure one call on one list. */
+/* What the arguments ask for. */
 typedef struct {
-    double batch;  /* seconds for which one side runs at a time, at least */
-    double budget; /* seconds after which no turn is begun, once there are enough */
-    int enough;
-} Effort;
+    Effort effort;
+    const char *folder; /* where the lists are written as files, and the times */
+    Programs programs;
+} Setting;
 
-static const Effort thorough = {50e-6, 0.25, 15};
-static const Effort quick = {20e-6, 0.02, 7};
-
-typedef struct {
-    double engine, peer;
-} Times;
-
-static double now(void)
-{
-    struct timespec t;
-    clock_gettime(CLOCK_MONOTONIC, &t);
-    return (double)t.tv_sec + 1e-9 * (double)t.tv_nsec;
-}
+static const Effort thorough = {50e-6, 0.25, 15, 101};
+static const Effort quick = {20e-6, 0.02, 7, 7};
 
 /* Comparing answers. */
 
@@ -117,19 +107,6 @@ static double time_rounds(const Side *side, Call call, const List *list, const u
     return (now() - start) / (double)calls;
 }
 
-static int by_size(const void *a, const void *b)
-{
-    double x = *(const double *)a;
-    double y = *(const double *)b;
-    return (x > y) - (x < y);
-}
-
-static double median(double *times, int count)
-{
-    qsort(times, (size_t)count, sizeof *times, by_size);
-    return count % 2 ? times[count / 2] : (times[count / 2 - 1] + times[count / 2]) / 2;
-}
-
 /* Rounds that fill a batch for a side; they also warm it up. */
 static size_t rounds_for(const Side *side, Call call, const List *list, const uint8_t *first, double batch)
 {
@@ -172,8 +149,15 @@ static void find_first(const List *list, uint8_t *first)
     memcpy(first, areas.bytes, list->n);
 }
 
-/* The mean over the lists of a kind. */
-static Times measure_kind(Call call, const Kind *kind, const Effort *effort, size_t *rules)
+/* Rows. A cell is the mean over the lists of a kind. */
+
+static void add_share(Times *sum, Times times, int samples)
+{
+    sum->engine += times.engine / samples;
+    sum->other += times.other / samples;
+}
+
+static Times measure_call(Call call, const Kind *kind, const Effort *effort)
 {
     static List list;
     uint8_t first[LIMIT_CHOICES];
@@ -182,66 +166,102 @@ static Times measure_kind(Call call, const Kind *kind, const Effort *effort, siz
         make_list(kind, sample, &list);
         find_first(&list, first);
         compare_walk(call, &list, kind->name, first);
-        Times times = measure(call, &list, first, effort);
-        sum.engine += times.engine / kind->samples;
-        sum.peer += times.peer / kind->samples;
+        add_share(&sum, measure(call, &list, first, effort), kind->samples);
     }
-    *rules = list.len / 2;
     return sum;
 }
 
-/* The table. */
-
-typedef struct {
-    double engine, peer; /* sums of logarithms */
-    double worst;
-    const char *where;
-} Summary;
-
-static void add_to(Summary *summary, Times times, const char *kind)
+/* The list as a file named after its kind, which stays there for whoever wants to try it by hand. */
+static void save(const List *list, const char *kind, int sample, const char *folder, char path[PATH_LIMIT])
 {
-    summary->engine += log(times.engine) / (double)kinds_count;
-    summary->peer += log(times.peer) / (double)kinds_count;
-    if (times.engine / times.peer > summary->worst) {
-        summary->worst = times.engine / times.peer;
-        summary->where = kind;
+    int length = snprintf(path, PATH_LIMIT, "%s/%s %d.cnf", folder, kind, sample);
+    if (length < PATH_LIMIT && write_dimacs(list, path))
+        return;
+    fprintf(stderr, "cannot write %s\n", path);
+    exit(1);
+}
+
+static bool possible(const List *list)
+{
+    static Areas areas;
+    return run_call(&engine, DECIDE, list, &areas, &whole) == DONE;
+}
+
+/* Gives the number of rules of a list of the kind. */
+static size_t measure_programs(const Setting *setting, const Kind *kind, Times sums[SOLVERS])
+{
+    static List list;
+    char path[PATH_LIMIT];
+    Times times[SOLVERS];
+    for (int sample = 0; sample < kind->samples; sample++) {
+        make_list(kind, sample, &list);
+        save(&list, kind->name, sample, setting->folder, path);
+        time_programs(&setting->programs, path, possible(&list), setting->effort.starts, times);
+        for (int s = 0; s < SOLVERS; s++)
+            add_share(&sums[s], times[s], kind->samples);
     }
+    return list.len / 2;
 }
 
-static void print_rows(const Effort *effort, Summary summaries[CALLS])
+static FILE *open_times(const char *folder)
 {
-    printf("%-18s %4s %5s  %-6s %11s %11s %7s\n", "kind", "n", "m", "call", "engine us", "peer us", "ratio");
-    for (size_t i = 0; i < kinds_count; i++)
-        for (Call call = DECIDE; call < CALLS; call++) {
-            size_t rules = 0;
-            Times times = measure_kind(call, &kinds[i], effort, &rules);
-            printf("%-18s %4d %5zu  %-6s %11.2f %11.2f %7.3f\n", kinds[i].name, LIMIT_CHOICES, rules, call_names[call],
-                   1e6 * times.engine, 1e6 * times.peer, times.engine / times.peer);
-            fflush(stdout);
-            add_to(&summaries[call], times, kinds[i].name);
-        }
-}
-
-static void print_means(const Summary summaries[CALLS])
-{
-    printf("\ngeometric means    %11s  %-6s %11s %11s %7s  %s\n", "", "call", "engine us", "peer us", "ratio", "worst ratio");
-    for (Call call = DECIDE; call < CALLS; call++) {
-        const Summary *s = &summaries[call];
-        printf("%30s  %-6s %11.2f %11.2f %7.3f  %.3f (%s)\n", "", call_names[call], 1e6 * exp(s->engine), 1e6 * exp(s->peer),
-               exp(s->engine - s->peer), s->worst, s->where);
+    char path[PATH_LIMIT];
+    int length = snprintf(path, PATH_LIMIT, "%s/times", folder);
+    FILE *times = length < PATH_LIMIT ? fopen(path, "w") : NULL;
+    if (times) {
+        fprintf(times, "%-17s %4s  %-7s %10s %10s %7s\n", "list", "m", "column", "engine us", "other us", "ratio");
+        return times;
     }
+    fprintf(stderr, "cannot write %s\n", path);
+    exit(1);
 }
 
+static void show(const Row *row, FILE *times)
+{
+    print_row(row);
+    write_times(times, row);
+}
+
+static Row measure_kind(const Setting *setting, const Kind *kind)
+{
+    Row row = {.name = kind->name};
+    for (Call call = DECIDE; call < CALLS; call++)
+        row.cells[call] = measure_call(call, kind, &setting->effort);
+    row.rules = measure_programs(setting, kind, row.cells + CALLS);
+    return row;
+}
+
+/* The first row is what starting the programs comes to by itself; it is not counted among the lists. */
+static void show_all(const Setting *setting)
+{
+    FILE *times = open_times(setting->folder);
+    Means means = {{0}, 0};
+    Row start = {.name = no_rules.name};
+    measure_programs(setting, &no_rules, start.cells + CALLS);
+    print_head();
+    show(&start, times);
+    for (size_t i = 0; i < kinds_count; i++) {
+        Row row = measure_kind(setting, &kinds[i]);
+        show(&row, times);
+        add_to_means(&means, &row);
+    }
+    print_means(&means);
+    fclose(times);
+}
+
+/* The arguments: the folder to write to, the paths of the programs, and perhaps --quick. */
 int main(int argc, char **argv)
 {
-    bool hasty = argc == 2 && strcmp(argv[1], "--quick") == 0;
-    if (argc > 1 && !hasty) {
-        fprintf(stderr, "usage: bench [--quick]\n");
+    enum { PATHS = 2, GIVEN = PATHS + 1 + SOLVERS };
+    bool hasty = argc == GIVEN + 1 && strcmp(argv[GIVEN], "--quick") == 0;
+    if (argc != GIVEN && !hasty) {
+        fprintf(stderr, "usage: bench/run [--stub] [--quick]\n");
         return 2;
     }
-    Summary summaries[CALLS] = {{0}};
+    Setting setting = {.effort = hasty ? quick : thorough, .folder = argv[1]};
+    for (int i = 0; i <= SOLVERS; i++)
+        setting.programs.paths[i] = argv[PATHS + i];
     compare_refusals();
-    print_rows(hasty ? &quick : &thorough, summaries);
-    print_means(summaries);
+    show_all(&setting);
     return 0;
 }
