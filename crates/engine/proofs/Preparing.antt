@@ -6,17 +6,16 @@ use native.Mathlib.Omega.{arith}
 use lib.ListN.{length, getD, replicate}
 use borrow.Author.Needs.{needs}
 use Rattle.components.specs.Leads.{Side}
-use Rattle.engine.specs.State.{Prepared}
-use Rattle.meaning.specs.Rules.{rules}
+use Rattle.engine.specs.Beginning.{Prepared}
 use Rattle.meaning.specs.Sizes.{workNeeds, over, cleared}
-use Rattle.moves.specs.Layout.{headAt, markAt, spareAt, nextAt, head, mark, trail, spare, next, Sizes}
+use Rattle.moves.specs.Layout.{headAt, markAt, spareAt, nextAt, head, mark, spare, next, Sizes}
 use Rattle.moves.specs.Lists.{Indexed}
 use Rattle.meaning.proofs.AreaLaws.{over-same}
 use Rattle.meaning.proofs.RefusalLaws.{Accepted}
 use Rattle.moves.proofs.Clearing.{length-zeros, cleared-length, cleared-zero, cleared-rest}
 use Rattle.moves.proofs.Places.{sizes-long, tables}
-use Rattle.moves.proofs.Trails.{trail-none}
-use Rattle.moves.proofs.Trying.{unmarked}
+use Rattle.moves.proofs.Trying.{holding-none}
+use Rattle.search.proofs.Searching.{known-none}
 
 -- an accepted list has the sizes that the moves ask for
 pub accepted-sizes : {n : ℕ} {ws : List ℕ} {area needs : ℕ} {W : List ℕ} → Accepted n ws area needs (length W) → Sizes n ws W
@@ -44,28 +43,24 @@ module _ (n : ℕ) (ws W W₁ : List ℕ) (s : Sizes n ws W) (e : W₁ ≡ over 
       record {
         state = record {
           ready = i .ready;
-          holding = record {
-            listed = trail-none (2 * n) (mark n W′) (trail n W′) unmarked;
-            closed = λ a k b st h. absurd (omega (arith, h .isMarked, unmarked a (h .isCode)));
-            consistent = λ c h k. omega (arith, h .isMarked, unmarked c (h .isCode));
-          };
-          notes = record { small = λ x h. omega (arith, unnoted x h); turns = λ x h q. absurd (omega (arith, unnoted x h)) };
+          holding = holding-none n ws W′ unmarked;
+          known = known-none unnoted;
         };
         unmarked = unmarked;
-        unnoted = unnoted;
         long = i .beside .long ∙ ap length e ∙ cleared-length (nextAt n 0) W fits;
         past = λ x h. i .beside .past x h ∙ ap (λ (l : List ℕ). next n l x) e ∙ cleared-rest (nextAt n 0) W fits (nextAt n x) (omega arith);
       }
 
 -- what is cleared in the end is cleared of the area as it was lent
-pub cleared-last : (n : ℕ) (ws W W₁ W₂ : List ℕ) → workNeeds n ws ≤ length W → length ws ≡ 2 * rules ws → Prepared n ws W W₁ → Side n W₁ W₂ → cleared n ws W₂ ≡ cleared n ws W
-cleared-last n ws W W₁ W₂ h even p a =
+pub cleared-last : (n : ℕ) (ws W W₁ W₂ : List ℕ) → Prepared n ws W W₁ → Side n W₁ W₂ → cleared n ws W₂ ≡ cleared n ws W
+cleared-last n ws W W₁ W₂ p a =
     let zeros : length (replicate {A = ℕ} (workNeeds n ws) 0) ≡ workNeeds n ws = length-zeros (workNeeds n ws) in
-    over-same (replicate (workNeeds n ws) 0) W W₂ (omega arith) (a .long ∙ p .long) same
+    over-same (replicate (workNeeds n ws) 0) W W₂ (omega (arith, p .state .ready .sizes .room, p .long)) (a .long ∙ p .long) same
   where
     same : (i : ℕ) → length (replicate {A = ℕ} (workNeeds n ws) 0) ≤ i → getD W₂ i 0 ≡ getD W i 0
     same i l =
+        let even = p .state .ready .sizes .even in
         let e : nextAt n (i - nextAt n 0) ≡ i = omega (arith, length-zeros (workNeeds n ws)) in
         let q : next n W₂ (i - nextAt n 0) ≡ next n W (i - nextAt n 0) =
-        a .nexts (i - nextAt n 0) ∙ p .past (i - nextAt n 0) (omega (arith, length-zeros (workNeeds n ws))) in
+        a .nexts (i - nextAt n 0) ∙ p .past (i - nextAt n 0) (omega (arith, even, length-zeros (workNeeds n ws))) in
         rw e at q

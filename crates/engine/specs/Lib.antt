@@ -1,6 +1,2 @@
 -- What the contracts of the engine's inner functions cite. Nobody has to believe them: the calls' promises stand in crate meaning.
-pub mod Checked
-pub mod State
-pub mod Search
-pub mod Forcing
-pub mod Replay
+pub mod Beginning

@@ -1,23 +1,16 @@
 // The work area of a call: its tables are cleared and the lists built before the moves, and all that the call may have used is cleared after them.
-use meaning::Choice;
+use crate::refuse::Checked;
+use crate::refuse::refuse;
+use crate::refuse::work_needs;
 use moves::clear::clear;
 use moves::index::index;
 use moves::layout::tables_end;
 ghost use mathlib.Core.Path.{_≡_};
-ghost use Prim.Native.Nat.{_≤_};
 ghost use lib.ListN.{length};
-ghost use Rattle.meaning.specs.Rules.{rules};
-ghost use Rattle.meaning.specs.Sizes.{maxChoices, maxRules, chainsNeed, workNeeds, cleared};
+ghost use Rattle.meaning.specs.Refusals.{listDue};
+ghost use Rattle.meaning.specs.Sizes.{cleared};
 ghost use Rattle.moves.specs.Layout.{Sizes};
-ghost use Rattle.engine.specs.State.{Prepared};
-
-// The words of work that a call needs.
-pub(crate) fn work_needs(n: usize, words: &[u16]) -> usize
-    requires { ⌜ (n ≤ maxChoices) × (rules (now words) ≤ maxRules) ⌝ }
-    ensures { λ r. ⌜ r ≡ workNeeds n (now (words .entry)) ⌝ }
-{
-    8 * n + 6 * (words.len() / 2) + 16
-}
+ghost use Rattle.engine.specs.Beginning.{Prepared, Begins};
 
 pub(crate) fn prepare(n: usize, words: &[u16], work: &mut [u16])
     requires { ⌜ Sizes n (now words) (now work) ⌝ }
@@ -27,17 +20,22 @@ pub(crate) fn prepare(n: usize, words: &[u16], work: &mut [u16])
     index(n, words, work);
 }
 
+// How every call begins that has `area` items for its answer, of which it needs `needs`: it refuses what is due, or prepares the work area.
+pub(crate) fn begin(n: usize, words: &[u16], area: usize, needs: usize, work: &mut [u16]) -> Checked
+    ensures { λ r. ⌜ Begins n (now (words .entry)) (listDue n (now (words .entry)) area needs (length (now (work .entry)))) (now (work .entry)) (now (work .exit)) r ⌝ }
+{
+    let checked = refuse(n, words, area, needs, work.len());
+    if let Checked::Refused(refusal) = checked {
+        return Checked::Refused(refusal);
+    }
+    prepare(n, words, work);
+    Checked::Fine
+}
+
 pub(crate) fn finish(n: usize, words: &[u16], work: &mut [u16])
-    requires { ⌜ (n ≤ maxChoices) × (rules (now words) ≤ maxRules) × (workNeeds n (now words) ≤ length (now work)) ⌝ }
+    requires { ⌜ Sizes n (now words) (now work) ⌝ }
     ensures { λ _. ⌜ now (work .exit) ≡ cleared n (now (words .entry)) (now (work .entry)) ⌝ }
 {
     let count = work_needs(n, words);
     clear(work, count);
-}
-
-// The words that two chains need. Where there are too many choices for a list, that is refused before the need is looked at.
-pub(crate) fn chains_need(n: usize) -> usize
-    ensures { λ r. ⌜ (n ≤ maxChoices → r ≡ chainsNeed n) ⌝ }
-{
-    if Choice::LIMIT < n { 0 } else { 4 * n }
 }

@@ -1,7 +1,6 @@
 // The calls on a list. Each looks for refusals first, works in the lent work area, writes its answer and clears the work area last.
-use areas::chains_need;
+use areas::begin;
 use areas::finish;
-use areas::prepare;
 use chains::chain::chain;
 use components::ties::lowest_clash;
 use components::ties::put_ties;
@@ -12,35 +11,31 @@ use meaning::Code;
 use meaning::Decided;
 use meaning::Listed;
 use meaning::Moved;
+use moves::spread::undo;
 use refuse::Checked;
-use refuse::refuse;
-use replay::Turn;
-use replay::find_next;
-use rounds::first_stuck;
-use rounds::put_forced;
-use rounds::sweep;
-use search::Found;
-use search::put_rota;
-use search::search;
-use values::refuse_next;
+use refuse::chains_need;
+use replay::turn::Turn;
+use replay::turn::find_next;
+use rounds::bytes::put_forced;
+use rounds::round::sweep;
+use search::first::Found;
+use search::first::search;
+use search::rota::put_rota;
+use values::begin_next;
 ghost use Rattle.meaning.specs.Promises.{Clashes, Decides, Forces, Moves, TiesUp};
 
 mod areas; // the work area, before and after the moves
 mod refuse; // which refusal is due
-mod replay; // the next rota, from a given one
-mod rounds; // what is forced, by trials that are kept
-mod search; // the first rota, choice by choice
 mod values; // what Next refuses
 
 // The first allowed rota; or the lowest choice that clashes.
 pub fn decide(n: usize, words: &[u16], rota: &mut [u8], work: &mut [u16]) -> Decided
     ensures { λ r. ⌜ Decides n (now (words .entry)) (now (rota .entry)) (now (work .entry)) r (now (rota .exit)) (now (work .exit)) ⌝ }
 {
-    let checked = refuse(n, words, rota.len(), n, work.len());
-    if let Checked::Refused(refusal) = checked {
+    let begun = begin(n, words, rota.len(), n, work);
+    if let Checked::Refused(refusal) = begun {
         return Decided::Refused(refusal);
     }
-    prepare(n, words, work);
     let found = search(n, words, work, Choice(0), 0);
     match found {
         Found::Whole(_) => {
@@ -48,7 +43,7 @@ pub fn decide(n: usize, words: &[u16], rota: &mut [u8], work: &mut [u16]) -> Dec
             finish(n, words, work);
             Decided::Possible
         }
-        Found::Stuck(v) => {
+        Found::Stuck(v, _) => {
             finish(n, words, work);
             Decided::Impossible(v)
         }
@@ -59,16 +54,16 @@ pub fn decide(n: usize, words: &[u16], rota: &mut [u8], work: &mut [u16]) -> Dec
 pub fn forced(n: usize, words: &[u16], area: &mut [u8], work: &mut [u16]) -> Listed
     ensures { λ r. ⌜ Forces n (now (words .entry)) (now (area .entry)) (now (work .entry)) r (now (area .exit)) (now (work .exit)) ⌝ }
 {
-    let checked = refuse(n, words, area.len(), n, work.len());
-    if let Checked::Refused(refusal) = checked {
+    let begun = begin(n, words, area.len(), n, work);
+    if let Checked::Refused(refusal) = begun {
         return Listed::Refused(refusal);
     }
-    prepare(n, words, work);
-    sweep(n, words, work);
-    if first_stuck(n, work) < n {
+    let found = search(n, words, work, Choice(0), 0);
+    let Found::Whole(tail) = found else {
         finish(n, words, work);
         return Listed::Impossible;
-    }
+    };
+    sweep(n, words, work, tail);
     put_forced(n, work, area);
     finish(n, words, work);
     Listed::Done
@@ -78,19 +73,18 @@ pub fn forced(n: usize, words: &[u16], area: &mut [u8], work: &mut [u16]) -> Lis
 pub fn clash(n: usize, words: &[u16], chains: &mut [u16], work: &mut [u16]) -> Clashed
     ensures { λ r. ⌜ Clashes n (now (words .entry)) (now (chains .entry)) (now (work .entry)) r (now (chains .exit)) (now (work .exit)) ⌝ }
 {
-    let checked = refuse(n, words, chains.len(), chains_need(n), work.len());
-    if let Checked::Refused(refusal) = checked {
+    let begun = begin(n, words, chains.len(), chains_need(n), work);
+    if let Checked::Refused(refusal) = begun {
         return Clashed::Refused(refusal);
     }
-    prepare(n, words, work);
     let found = search(n, words, work, Choice(0), 0);
     match found {
         Found::Whole(_) => {
             finish(n, words, work);
             Clashed::Possible
         }
-        Found::Stuck(v) => {
-            prepare(n, words, work);
+        Found::Stuck(v, tail) => {
+            undo(n, work, 0, tail);
             let there = chain(n, words, work, Code::of(v, 1), chains, 0);
             let back = chain(n, words, work, Code::of(v, 0), chains, there);
             finish(n, words, work);
@@ -107,11 +101,10 @@ pub fn clash(n: usize, words: &[u16], chains: &mut [u16], work: &mut [u16]) -> C
 pub fn ties(n: usize, words: &[u16], area: &mut [u16], work: &mut [u16]) -> Listed
     ensures { λ r. ⌜ TiesUp n (now (words .entry)) (now (area .entry)) (now (work .entry)) r (now (area .exit)) (now (work .exit)) ⌝ }
 {
-    let checked = refuse(n, words, area.len(), n, work.len());
-    if let Checked::Refused(refusal) = checked {
+    let begun = begin(n, words, area.len(), n, work);
+    if let Checked::Refused(refusal) = begun {
         return Listed::Refused(refusal);
     }
-    prepare(n, words, work);
     components(n, words, work);
     if lowest_clash(n, work) < n {
         finish(n, words, work);
@@ -126,11 +119,10 @@ pub fn ties(n: usize, words: &[u16], area: &mut [u16], work: &mut [u16]) -> List
 pub fn next(n: usize, words: &[u16], rota: &mut [u8], work: &mut [u16]) -> Moved
     ensures { λ r. ⌜ Moves n (now (words .entry)) (now (rota .entry)) (now (work .entry)) r (now (rota .exit)) (now (work .exit)) ⌝ }
 {
-    let checked = refuse_next(n, words, rota, work.len());
-    if let Checked::Refused(refusal) = checked {
+    let begun = begin_next(n, words, rota, work);
+    if let Checked::Refused(refusal) = begun {
         return Moved::Refused(refusal);
     }
-    prepare(n, words, work);
     let turn = find_next(n, words, work, rota);
     match turn {
         Turn::Moved => {

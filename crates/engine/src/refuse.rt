@@ -1,6 +1,5 @@
 // Refusals come before anything is written, in the order that the promises name. Codes are checked in one pass for the highest, which is
 // cheap, and only a list that is refused is searched for the place.
-use crate::areas::work_needs;
 use meaning::Choice;
 use meaning::Refusal;
 use meaning::RuleNo;
@@ -8,7 +7,9 @@ ghost use mathlib.Core.Path.{_≡_};
 ghost use Prim.Native.Nat.{ℕ, _≤_, _<_};
 ghost use lib.ListN.{length, getD};
 ghost use Rattle.meaning.specs.Refusals.{firstOver, listDue};
-ghost use Rattle.engine.specs.Checked.{checkedRefusal};
+ghost use Rattle.meaning.specs.Rules.{rules};
+ghost use Rattle.meaning.specs.Sizes.{maxChoices, maxRules, chainsNeed, workNeeds};
+ghost use Rattle.engine.specs.Beginning.{checkedRefusal};
 
 pub(crate) enum Checked {
     Fine,
@@ -61,6 +62,21 @@ fn code_too_high(words: &[u16], limit: usize) -> usize
         return words.len();
     }
     first_over(words, limit)
+}
+
+// The words of work that a call needs.
+pub(crate) fn work_needs(n: usize, words: &[u16]) -> usize
+    requires { ⌜ (n ≤ maxChoices) × (rules (now words) ≤ maxRules) ⌝ }
+    ensures { λ r. ⌜ r ≡ workNeeds n (now (words .entry)) ⌝ }
+{
+    8 * n + 6 * (words.len() / 2) + 16
+}
+
+// The words that two chains need. Where there are too many choices for a list, that is refused before the need is looked at.
+pub(crate) fn chains_need(n: usize) -> usize
+    ensures { λ r. ⌜ (n ≤ maxChoices → r ≡ chainsNeed n) ⌝ }
+{
+    if Choice::LIMIT < n { 0 } else { 4 * n }
 }
 
 // What is due in a call that has `area` items for its answer, of which it needs `needs`, and `work` words of work.

@@ -3,9 +3,9 @@ use mathlib.Core.Path.{_≡_}
 use borrow.Author.Needs.{needs}
 use denote.Ref.{now}
 use lib.ListN.{length}
-use Rattle.meaning.specs.Refusals.{Due, none, listDue}
+use Rattle.meaning.specs.Refusals.{Due, listDue}
 use Rattle.meaning.specs.Sizes.{rotaNeeds}
-use Rattle.engine.proofs.Moving.{next-ahead, next-room, next-value, next-fine}
+use Rattle.engine.proofs.Refusing.{next-ahead, next-room, next-value, next-fine}
 use Rattle.engine.proofs.values.refuse_next.Statement.{statement}
 use Rattle.engine.proofs.values.refuse_next.Tie as tie
 

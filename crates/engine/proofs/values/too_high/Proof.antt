@@ -3,7 +3,7 @@ use Prim.Native.Nat.{ℕ, _-_, _≤_, _<_}
 use native.Mathlib.Omega.{arith}
 use borrow.Author.Count.{below-more}
 use lib.ListN.{getD}
-use Rattle.engine.proofs.Moving.{front-over}
+use Rattle.engine.proofs.Refusing.{front-over}
 use Rattle.engine.proofs.values.too_high.Statement.{statement}
 use Rattle.engine.proofs.values.too_high.Tie as tie
 

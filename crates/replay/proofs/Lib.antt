@@ -1,0 +1,3 @@
+-- The laws that carry the replay.
+pub mod Replaying
+pub mod Turning

@@ -1,0 +1,3 @@
+-- The laws that carry the rounds.
+pub mod Rounds
+pub mod Forcing

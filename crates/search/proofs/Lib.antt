@@ -1,0 +1,3 @@
+-- The laws that carry the search.
+pub mod Following
+pub mod Searching
