@@ -1,5 +1,4 @@
 -- The laws that carry the engine's calls.
 pub mod Preparing
-pub mod Refusing
 pub mod Answering
 pub mod EveryRota

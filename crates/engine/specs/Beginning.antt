@@ -6,12 +6,7 @@ use lib.ListN.{length}
 use Rattle.meaning.specs.Refusals.{Due, none, asDue}
 use Rattle.moves.specs.Layout.{mark, next}
 use Rattle.search.specs.State.{State}
-use Rattle.engine.specs.declared.refuse.Checked.{Checked}
-
--- the refusal that a check of the input carries
-abbrev pub checkedRefusal : Checked → Due
-checkedRefusal Checked.Fine = none
-checkedRefusal (Checked.Refused r) = asDue r
+use Rattle.checks.specs.declared.refuse.Checked.{Checked}
 
 -- the lists are built, the set is empty, and nothing is noted; what lies past the lists is as it was
 pub record Prepared (n : ℕ) (ws W W′ : List ℕ) : Type 0 where

@@ -1,7 +1,10 @@
 // The calls on a list. Each looks for refusals first, works in the lent work area, writes its answer and clears the work area last.
 use areas::begin;
+use areas::begin_next;
 use areas::finish;
 use chains::chain::chain;
+use checks::refuse::Checked;
+use checks::refuse::chains_need;
 use components::ties::lowest_clash;
 use components::ties::put_ties;
 use components::walk::components;
@@ -12,8 +15,6 @@ use meaning::Decided;
 use meaning::Listed;
 use meaning::Moved;
 use moves::spread::undo;
-use refuse::Checked;
-use refuse::chains_need;
 use replay::turn::Turn;
 use replay::turn::find_next;
 use rounds::bytes::put_forced;
@@ -21,12 +22,9 @@ use rounds::round::sweep;
 use search::first::Found;
 use search::first::search;
 use search::rota::put_rota;
-use values::begin_next;
 ghost use Rattle.meaning.specs.Promises.{Clashes, Decides, Forces, Moves, TiesUp};
 
-mod areas; // the work area, before and after the moves
-mod refuse; // which refusal is due
-mod values; // what Next refuses
+mod areas; // how a call begins and finishes
 
 // The first allowed rota; or the lowest choice that clashes.
 pub fn decide(n: usize, words: &[u16], rota: &mut [u8], work: &mut [u16]) -> Decided

@@ -1,6 +1,6 @@
 -- `first_over` meets its contract: every word that was passed is below the limit.
-use Rattle.engine.proofs.refuse.first_over.Statement.{statement}
-use Rattle.engine.proofs.refuse.first_over.Tie as tie
+use Rattle.checks.proofs.refuse.first_over.Statement.{statement}
+use Rattle.checks.proofs.refuse.first_over.Tie as tie
 use mathlib.Core.Path.{sym}
 use Prim.Native.Nat.{ℕ, _-_, _≤_, _<_}
 use native.Mathlib.Omega.{arith}

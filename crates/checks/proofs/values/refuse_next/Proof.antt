@@ -5,9 +5,9 @@ use denote.Ref.{now}
 use lib.ListN.{length}
 use Rattle.meaning.specs.Refusals.{Due, listDue}
 use Rattle.meaning.specs.Sizes.{rotaNeeds}
-use Rattle.engine.proofs.Refusing.{next-ahead, next-room, next-value, next-fine}
-use Rattle.engine.proofs.values.refuse_next.Statement.{statement}
-use Rattle.engine.proofs.values.refuse_next.Tie as tie
+use Rattle.checks.proofs.NextRefusing.{next-ahead, next-room, next-value, next-fine}
+use Rattle.checks.proofs.values.refuse_next.Statement.{statement}
+use Rattle.checks.proofs.values.refuse_next.Tie as tie
 
 fine : (c : tie.After-enum-told) → Due.none ≡ listDue ((c .before .before .before .before .before .args) .n) (now ((c .before .before .before .before .before .args) .words)) (length (now ((c .before .before .before .before .before .args) .rota))) (rotaNeeds ((c .before .before .before .before .before .args) .n)) ((c .before .before .before .before .before .args) .work)
 fine c =

@@ -9,9 +9,9 @@ ghost use lib.ListN.{length, getD};
 ghost use Rattle.meaning.specs.Refusals.{firstOver, listDue};
 ghost use Rattle.meaning.specs.Rules.{rules};
 ghost use Rattle.meaning.specs.Sizes.{maxChoices, maxRules, chainsNeed, workNeeds};
-ghost use Rattle.engine.specs.Beginning.{checkedRefusal};
+ghost use Rattle.checks.specs.Checked.{checkedRefusal};
 
-pub(crate) enum Checked {
+pub enum Checked {
     Fine,
     Refused(Refusal),
 }
@@ -65,7 +65,7 @@ fn code_too_high(words: &[u16], limit: usize) -> usize
 }
 
 // The words of work that a call needs.
-pub(crate) fn work_needs(n: usize, words: &[u16]) -> usize
+pub fn work_needs(n: usize, words: &[u16]) -> usize
     requires { ⌜ (n ≤ maxChoices) × (rules (now words) ≤ maxRules) ⌝ }
     ensures { λ r. ⌜ r ≡ workNeeds n (now (words .entry)) ⌝ }
 {
@@ -73,14 +73,14 @@ pub(crate) fn work_needs(n: usize, words: &[u16]) -> usize
 }
 
 // The words that two chains need. Where there are too many choices for a list, that is refused before the need is looked at.
-pub(crate) fn chains_need(n: usize) -> usize
+pub fn chains_need(n: usize) -> usize
     ensures { λ r. ⌜ (n ≤ maxChoices → r ≡ chainsNeed n) ⌝ }
 {
     if Choice::LIMIT < n { 0 } else { 4 * n }
 }
 
 // What is due in a call that has `area` items for its answer, of which it needs `needs`, and `work` words of work.
-pub(crate) fn refuse(n: usize, words: &[u16], area: usize, needs: usize, work: usize) -> Checked
+pub fn refuse(n: usize, words: &[u16], area: usize, needs: usize, work: usize) -> Checked
     ensures { λ r. ⌜ checkedRefusal r ≡ listDue n (now (words .entry)) area needs work ⌝ }
 {
     let count = words.len();

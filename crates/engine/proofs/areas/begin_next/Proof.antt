@@ -4,8 +4,8 @@ use denote.Ref.{now}
 use Rattle.meaning.proofs.RefusalLaws.{next-accepted}
 use Rattle.engine.proofs.Preparing.{accepted-sizes}
 use borrow.Author.Needs.{needs}
-use Rattle.engine.proofs.values.begin_next.Statement.{statement}
-use Rattle.engine.proofs.values.begin_next.Tie as tie
+use Rattle.engine.proofs.areas.begin_next.Statement.{statement}
+use Rattle.engine.proofs.areas.begin_next.Tie as tie
 
 refuse-next-requires : tie.Need-refuse-next-requires
 refuse-next-requires c κs = search needs

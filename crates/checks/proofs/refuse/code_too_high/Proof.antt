@@ -1,7 +1,7 @@
 -- `code_too_high` meets its contract: where the highest word is below the limit, every word is.
 use borrow.Author.Needs.{needs}
-use Rattle.engine.proofs.refuse.code_too_high.Statement.{statement}
-use Rattle.engine.proofs.refuse.code_too_high.Tie as tie
+use Rattle.checks.proofs.refuse.code_too_high.Statement.{statement}
+use Rattle.checks.proofs.refuse.code_too_high.Tie as tie
 use mathlib.Core.Path.{sym}
 use native.Mathlib.Omega.{arith}
 use denote.Ref.{now}

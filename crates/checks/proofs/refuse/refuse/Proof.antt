@@ -1,7 +1,7 @@
 -- `refuse` meets its contract: each test is the check that stands at its place in the list.
 use borrow.Author.Needs.{needs}
-use Rattle.engine.proofs.refuse.refuse.Statement.{statement}
-use Rattle.engine.proofs.refuse.refuse.Tie as tie
+use Rattle.checks.proofs.refuse.refuse.Statement.{statement}
+use Rattle.checks.proofs.refuse.refuse.Tie as tie
 use borrow.Author.Tests.{lt-ltb, le-ltb, eq-eqb, ne-eqb}
 use Rattle.meaning.specs.Refusals.{listDue}
 use Rattle.meaning.specs.Rules.{left}

@@ -3,9 +3,9 @@ use Prim.Native.Nat.{ℕ, _-_, _≤_, _<_}
 use native.Mathlib.Omega.{arith}
 use borrow.Author.Count.{below-more}
 use lib.ListN.{getD}
-use Rattle.engine.proofs.Refusing.{front-over}
-use Rattle.engine.proofs.values.too_high.Statement.{statement}
-use Rattle.engine.proofs.values.too_high.Tie as tie
+use Rattle.checks.proofs.NextRefusing.{front-over}
+use Rattle.checks.proofs.values.too_high.Statement.{statement}
+use Rattle.checks.proofs.values.too_high.Tie as tie
 
 abbrev Inv-loop : tie.InvT-loop
 Inv-loop n rota i₀ i = (i ≤ n) × ((j : ℕ) → j < i → getD rota j 0 < 2)

@@ -1,6 +1,6 @@
 -- `highest` meets its contract: no word that was passed is over the number held.
-use Rattle.engine.proofs.refuse.highest.Statement.{statement}
-use Rattle.engine.proofs.refuse.highest.Tie as tie
+use Rattle.checks.proofs.refuse.highest.Statement.{statement}
+use Rattle.checks.proofs.refuse.highest.Tie as tie
 use Prim.Native.Nat.{ℕ, _-_, _≤_, _<_}
 use native.Mathlib.Omega.{arith}
 use borrow.Author.Needs.{needs}

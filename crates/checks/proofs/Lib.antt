@@ -1,0 +1,2 @@
+-- The laws that carry the checks.
+pub mod NextRefusing
