@@ -30,8 +30,7 @@ fn try_code(n: usize, words: &[u16], work: &mut [u16], c: Code, tail: usize) -> 
             t
         }
         Trial::Failed(b, walked) => {
-            set_spare(n, work, c, 2);
-            teach(n, words, work, b, walked, tail);
+            teach(n, words, work, c, b, walked, tail);
             tail
         }
     }

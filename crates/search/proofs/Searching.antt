@@ -70,18 +70,20 @@ state-grew s g = record { ready = ready-apart (s .ready) (g .apart); holding = g
 pub state-gave-up : {n : ℕ} {ws : List ℕ} {c tail : ℕ} {W W′ : List ℕ} {b : ℕ} → State n ws W tail → GaveUp n ws c tail W W′ b → State n ws W′ tail
 state-gave-up s g = record { ready = ready-apart (s .ready) (g .apart); holding = g .holding; known = known-apart (s .known) (g .apart) }
 
--- nothing is learnt, or something
-pub taught-none : {n : ℕ} {ws : List ℕ} {tail : ℕ} {W : List ℕ} → State n ws W tail → Taught n ws tail W W
-taught-none {n} {ws} {tail} {W} s = record { around = around-refl n W; state = s; marks = λ x l. refl; spares = λ x l. inl refl }
-
-pub taught-learnt : {n : ℕ} {ws : List ℕ} {tail : ℕ} {W W′ : List ℕ} → State n ws W tail → Learnt n ws tail W W′ → Taught n ws tail W W′
-taught-learnt s l =
-    let around : Around _ _ _ = record { long = l .still .long; heads = l .still .heads; nexts = l .still .nexts } in
+-- more is learnt after a failure is noted
+pub taught-more : {n : ℕ} {ws : List ℕ} {c tail : ℕ} {W W₁ W₂ : List ℕ} → c < 2 * n → Taught n ws c tail W W₁ → Learnt n ws tail W₁ W₂ → Taught n ws c tail W W₂
+taught-more {n} {ws} {c} {tail} {W} {W₁} {W₂} m t l =
+    let around : Around n W₁ W₂ = record { long = l .still .long; heads = l .still .heads; nexts = l .still .nexts } in
     record {
-      around = around;
-      state = record { ready = ready-around (s .ready) around; holding = l .still .holding; known = known-more (s .known) (l .spares) (l .notes .turns) };
-      marks = l .still .marks;
-      spares = l .spares;
+      around = around-trans (t .around) around;
+      here = ⊎-elim (λ e. e ∙ t .here) (λ e. e) (l .spares c m);
+      state = record {
+        ready = ready-around (t .state .ready) around;
+        holding = l .still .holding;
+        known = known-more (t .state .known) (l .spares) (l .notes .turns);
+      };
+      marks = λ x k. l .still .marks x k ∙ t .marks x k;
+      spares = λ x k. ⊎-elim (λ e. ⊎-elim (λ d. inl (e ∙ d)) (λ d. inr (e ∙ d)) (t .spares x k)) (λ e. inr e) (l .spares x k);
     }
 
 -- what is settled after changes that keep the marks is settled
@@ -95,8 +97,8 @@ settles-after {n} {ws} {v} {w} {W} {W₁} {W′} a same s =
     }
 
 -- what is learnt afterwards keeps what is settled
-pub settles-taught : {n : ℕ} {ws : List ℕ} {v w : ℕ} {W W₁ W′ : List ℕ} {t : ℕ} → Settles n ws v w W W₁ t → Taught n ws t W₁ W′ → Settles n ws v w W W′ t
-settles-taught {n} {ws} {v} {w} {W} {W₁} {W′} s t =
+pub settles-taught : {n : ℕ} {ws : List ℕ} {v w c : ℕ} {W W₁ W′ : List ℕ} {t : ℕ} → Settles n ws v w W W₁ t → Taught n ws c t W₁ W′ → Settles n ws v w W W′ t
+settles-taught {n} {ws} {v} {w} {c} {W} {W₁} {W′} s t =
     record {
       around = around-trans (s .around) (t .around);
       state = t .state;

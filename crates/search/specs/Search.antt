@@ -11,9 +11,10 @@ use Rattle.search.specs.State.{Around, State}
 use Rattle.search.specs.declared.settle.Settled.{Settled}
 use Rattle.search.specs.declared.first.Found.{Found}
 
--- some notes may have become 2, and nothing else has changed
-pub record Taught (n : ℕ) (ws : List ℕ) (tail : ℕ) (W W′ : List ℕ) : Type 0 where
+-- the note of c is 2, others may have become 2, and nothing else has changed
+pub record Taught (n : ℕ) (ws : List ℕ) (c tail : ℕ) (W W′ : List ℕ) : Type 0 where
   pub around : Around n W W′
+  pub here : spare n W′ c ≡ 2
   pub state : State n ws W′ tail
   pub marks : (x : ℕ) → x < 2 * n → mark n W′ x ≡ mark n W x
   pub spares : (x : ℕ) → x < 2 * n → (spare n W′ x ≡ spare n W x) ⊎ (spare n W′ x ≡ 2)

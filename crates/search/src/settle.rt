@@ -5,12 +5,13 @@ use meaning::Code;
 use moves::attempt::Trial;
 use moves::attempt::attempt;
 use moves::layout::mark_of;
+use moves::layout::set_spare;
 use moves::layout::spare_of;
 use moves::learn::learn;
 ghost use mathlib.Core.Path.{_≡_};
 ghost use Prim.Native.Nat.{_*_, _<_};
 ghost use Rattle.meaning.specs.Chains.{Reach};
-ghost use Rattle.meaning.specs.Codes.{late, early};
+ghost use Rattle.meaning.specs.Codes.{opposite, late, early};
 ghost use Rattle.moves.specs.Layout.{mark};
 ghost use Rattle.search.specs.State.{State};
 ghost use Rattle.search.specs.Search.{Taught, SettleSays};
@@ -23,12 +24,21 @@ pub enum Settled {
     Stuck,
 }
 
-// Learns from a failure at b, if it walked far and the set does not tell of b yet.
-pub fn teach(n: usize, words: &[u16], work: &mut [u16], b: Code, walked: usize, tail: usize)
+// Notes that c leads to its opposite, and learns from the code b at which its trial failed, if that walked far and the set does not tell of b yet.
+pub fn teach(
+    n: usize,
+    words: &[u16],
+    work: &mut [u16],
+    c: Code,
+    b: Code,
+    walked: usize,
+    tail: usize,
+)
     requires { ⌜ State n (now words) (now work) tail ⌝ }
-    requires { ⌜ b .0 < 2 * n ⌝ }
-    ensures { λ _. ⌜ Taught n (now (words .entry)) tail (now (work .entry)) (now (work .exit)) ⌝ }
+    requires { ⌜ (c .0 < 2 * n) × Reach (now words) (c .0) (opposite (c .0)) × (b .0 < 2 * n) ⌝ }
+    ensures { λ _. ⌜ Taught n (now (words .entry)) (c .0) tail (now (work .entry)) (now (work .exit)) ⌝ }
 {
+    set_spare(n, work, c, 2);
     if walked < FAR {
         return;
     }
@@ -61,7 +71,8 @@ fn try_both(n: usize, words: &[u16], work: &mut [u16], v: Choice, tail: usize) -
     requires { ⌜ (v .0 < n) × (mark n (now work) (late (v .0)) ≡ 0) × (mark n (now work) (early (v .0)) ≡ 0) ⌝ }
     ensures { λ r. ⌜ SettleSays n (now (words .entry)) (v .0) tail (now (work .entry)) (now (work .exit)) r ⌝ }
 {
-    let tried = attempt(n, words, work, Code::of(v, 0), tail);
+    let first = Code::of(v, 0);
+    let tried = attempt(n, words, work, first, tail);
     match tried {
         Trial::Kept(t) => Settled::Kept(t),
         Trial::Failed(b, walked) => {
@@ -69,7 +80,7 @@ fn try_both(n: usize, words: &[u16], work: &mut [u16], v: Choice, tail: usize) -
             let Settled::Kept(t) = settled else {
                 return Settled::Stuck;
             };
-            teach(n, words, work, b, walked, t);
+            teach(n, words, work, first, b, walked, t);
             Settled::Kept(t)
         }
     }

@@ -8,7 +8,7 @@ use native.Mathlib.Omega.{arith}
 use denote.Ref.{now}
 use Rattle.meaning.specs.Codes.{opposite}
 use Rattle.moves.specs.Layout.{mark}
-use Rattle.rounds.proofs.Rounds.{more-none, noted, in-set}
+use Rattle.rounds.proofs.Rounds.{more-none, more-noted, in-set}
 use Rattle.meaning.proofs.CodeLaws.{opposite-below}
 use Rattle.moves.proofs.Places.{tables}
 
@@ -31,7 +31,7 @@ same-length-2 : tie.Need-same-length-2
 same-length-2 c = search needs
 
 returns-2 : tie.Need-returns-2
-returns-2 c = rw ((c .before .before .set-spare) .ensures) (noted _ _ _ _ _ 1 ((c .before .before .before .before .before .before .before .before .before .before .before .before .pre) .1) ((c .before .before .before .before .before .before .before .before .before .before .before .before .pre) .0) (inl (refl, in-set ((c .before .before .before .before .before .before .before .before .before .before .before .before .pre) .0) ((c .before .before .before .before .before .before .before .before .before .before .before .before .pre) .1) (omega (arith, (c .before .before .before .before .before .mark-of) .ensures, (c .before .before .before .before .if2) .taken)))))
+returns-2 c = rw ((c .before .before .set-spare) .ensures) (more-noted _ _ _ _ _ 1 ((c .before .before .before .before .before .before .before .before .before .before .before .before .pre) .1) ((c .before .before .before .before .before .before .before .before .before .before .before .before .pre) .0) (inl (refl, in-set ((c .before .before .before .before .before .before .before .before .before .before .before .before .pre) .0) ((c .before .before .before .before .before .before .before .before .before .before .before .before .pre) .1) (omega (arith, (c .before .before .before .before .before .mark-of) .ensures, (c .before .before .before .before .if2) .taken)))))
 
 opposite-requires : tie.Need-opposite-requires
 opposite-requires c κs = search needs

@@ -1,10 +1,16 @@
 -- `try_code` meets its contract: a trial that is kept shows the code possible, and one that fails that it leads to its opposite.
+use native.Mathlib.Omega.{arith}
+use Rattle.moves.proofs.Places.{tables}
+use Rattle.search.proofs.Searching.{state-gave-up}
+use Rattle.rounds.proofs.Rounds.{tried-possible, tried-failing}
 use borrow.Author.Needs.{needs}
 use Rattle.rounds.proofs.round.try_code.Statement.{statement}
 use Rattle.rounds.proofs.round.try_code.Tie as tie
-use native.Mathlib.Omega.{arith}
-use Rattle.rounds.proofs.Rounds.{tried-possible, tried-failing, failed-state}
-use Rattle.moves.proofs.Places.{tables}
+use Rattle.rounds.proofs.round.try_code.Reads as reads
+use Rattle.rounds.proofs.round.try_code.Lts as lts
+use Rattle.moves.proofs.attempt.attempt.Reads as attempt-reads
+use Rattle.moves.proofs.layout.set_spare.Reads as set-spare-reads
+use Rattle.search.proofs.settle.teach.Reads as teach-reads
 
 attempt-requires : tie.Need-attempt-requires
 attempt-requires c κs = ((c .before .before .before .pre) .0 .ready, ((c .before .before .before .pre) .0 .holding, (c .before .before .before .pre) .1))
@@ -18,12 +24,9 @@ set-spare-requires c κs = ((c .before .before .before .before .before .before .
 enum-known-tried-2 : tie.Need-enum-known-tried-2
 enum-known-tried-2 c = search needs
 
-set-spare-requires-2 : tie.Need-set-spare-requires-2
-set-spare-requires-2 c κs = ((c .before .before .before .before .before .before .before .before .before .before .pre) .1 .0, omega (arith, tables ((c .before .before .before .before .before .before .before .before .before .before .pre) .0 .ready .sizes), (c .before .before .before .before .before .before .attempt) .kept .1 .1 .0))
-
 teach-requires : tie.Need-teach-requires
-teach-requires c κs = let g = rw ((c .before .before .before .before .before .before .tried2) .given .1) at ((c .before .before .before .before .before .before .before .before .before .before .attempt) .ensures) in
-    rw ((c .before .before .before .set-spare2) .ensures) (failed-state ((c .before .before .before .before .before .before .before .before .before .before .before .before .before .before .pre) .0) ((c .before .before .before .before .before .before .before .before .before .before .before .before .before .before .pre) .1 .0) (g .0))
+teach-requires c κs = let g = rw ((c .before .before .tried2) .given .1) at ((c .before .before .before .before .before .before .attempt) .ensures) in
+    (state-gave-up ((c .before .before .before .before .before .before .before .before .before .before .pre) .0) (g .0), ((c .before .before .before .before .before .before .before .before .before .before .pre) .1 .0, g .0 .turns, g .0 .isCode))
 
 same-length : tie.Need-same-length
 same-length c = search needs
@@ -35,8 +38,8 @@ same-length-2 : tie.Need-same-length-2
 same-length-2 c = search needs
 
 returns-2 : tie.Need-returns-2
-returns-2 c = let g = rw ((c .before .before .before .before .before .before .before .before .before .tried2) .given .1) at ((c .before .before .before .before .before .before .before .before .before .before .before .before .before .attempt) .ensures) in
-    tried-failing ((c .before .before .before .before .before .before .before .before .before .before .before .before .before .before .before .before .before .pre) .0) ((c .before .before .before .before .before .before .before .before .before .before .before .before .before .before .before .before .before .pre) .1 .0) (g .0) (rw ((c .before .before .before .before .before .before .set-spare2) .ensures) at ((c .before .before .teach) .ensures)) ((c .before .before .before .before .before .before .before .before .before .before .before .before .before .before .before .before .before .pre) .1 .2)
+returns-2 c = let g = rw ((c .before .before .before .before .before .tried2) .given .1) at ((c .before .before .before .before .before .before .before .before .before .attempt) .ensures) in
+    tried-failing ((c .before .before .before .before .before .before .before .before .before .before .before .before .before .pre) .0) (g .0) ((c .before .before .teach) .ensures)
 
 pub try-code-spec : {M : Type 1} → statement M
 try-code-spec =
@@ -46,7 +49,6 @@ try-code-spec =
     enum-known-tried
     set-spare-requires
     enum-known-tried-2
-    set-spare-requires-2
     teach-requires
     same-length
     returns
