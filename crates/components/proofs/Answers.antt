@@ -104,9 +104,6 @@ pub lowest-none : {n v : ℕ} {W : List ℕ} → n ≤ v → TwoMarks n W v → 
 lowest-none nv all ws h = record { within = all .within; before = free-before all ws h; clash = λ l. absurd (omega arith) }
 
 -- what the answer of `lowest_clash` says of the list
-pub lowest-of : {n r : ℕ} {ws : List ℕ} → LowestOrNone n ws r → r < n → LowestClash ws r
-lowest-of a l = record { clash = a .clash l; lowest = a .before }
-
 pub impossible-of : {n r : ℕ} {ws : List ℕ} → LowestOrNone n ws r → r < n → Impossible n ws
 impossible-of {n} {r} {ws} a l = clash-impossible n ws r (a .clash l)
 

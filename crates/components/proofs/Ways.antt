@@ -1,5 +1,5 @@
 -- Ways from code to code, and the ends of rules, as the walk uses them.
-use mathlib.Core.Path.{_≡_, refl, subst}
+use mathlib.Core.Path.{_≡_, subst}
 use mathlib.Core.Logic.{_⊎_, inl, inr, ⊎-elim, _≢_}
 use mathlib.Core.List.{List, [], _∷_}
 use Prim.Native.Nat.{ℕ, zero, suc, _*_, _≤_, _<_}
@@ -9,7 +9,7 @@ use Rattle.meaning.specs.Chains.{Step, Chain, Reach, Tied}
 use Rattle.meaning.specs.Codes.{opposite}
 use Rattle.moves.specs.Layout.{Sizes}
 use Rattle.moves.specs.Walks.{countOf}
-use Rattle.meaning.proofs.ChainLaws.{reach-trans, reach-flip, reach-step, reach-refl}
+use Rattle.meaning.proofs.ChainLaws.{reach-trans, reach-flip, reach-step}
 use Rattle.meaning.proofs.CodeLaws.{opposite-opposite}
 use Rattle.meaning.proofs.General.{below-or-from}
 use Rattle.moves.proofs.Places.{same?}

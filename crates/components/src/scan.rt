@@ -6,7 +6,6 @@ use meaning::Code;
 use moves::ends::code_at;
 use moves::ends::other_end;
 use moves::layout::next_of;
-ghost use mathlib.Core.Path.{_≡_};
 ghost use Prim.Native.Nat.{_*_, _<_};
 ghost use Rattle.moves.specs.Layout.{Sizes, mark};
 ghost use Rattle.components.specs.Walk.{Nexts, Cursor, cursor, orZero, Scanned};

@@ -17,7 +17,7 @@ use Rattle.meaning.specs.Rules.{rules, InRange}
 use Rattle.meaning.specs.Rotas.{First, Forced, Impossible}
 use Rattle.meaning.specs.Chains.{Chain}
 use Rattle.meaning.specs.Sizes.{maxChoices, maxRules, rotaNeeds, chainsNeed, workNeeds, over}
-use Rattle.meaning.specs.Refusals.{Due, none, refused, numberOf, placeOf, listDue}
+use Rattle.meaning.specs.Refusals.{Due, none, numberOf, placeOf, listDue}
 use Rattle.meaning.specs.Promises.{Answered, Keeps, decidedRefusal, DecideSays, Decides, listedRefusal, ListedSays, Each, Forces, clashedRefusal, ClashSays, BothChains, Clashes}
 use Rattle.meaning.proofs.ChainLaws.{clash-impossible}
 use Rattle.meaning.proofs.ChainLength.{clash-within}

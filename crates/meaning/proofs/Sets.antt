@@ -1,17 +1,14 @@
 -- Sets of codes that steps do not leave: a rota whose true codes lie in such a set is allowed, and such a set grows by all that a code reaches.
-use mathlib.Core.Path.{_≡_, refl, sym, _∙_, subst}
+use mathlib.Core.Path.{refl, sym, subst}
 use mathlib.Core.Logic.{_⊎_, inl, inr, ⊎-elim}
 use mathlib.Core.List.{List, [], _∷_}
-use Prim.Native.Nat.{ℕ, _*_, _<_, min}
-use native.Mathlib.Omega.{arith}
-use lib.ListN.{getD}
+use Prim.Native.Nat.{ℕ, _*_, _<_}
 use Rattle.meaning.specs.Chains.{Step, Chain, Reach}
-use Rattle.meaning.specs.Codes.{late, early, opposite, choiceOf, valueOf}
+use Rattle.meaning.specs.Codes.{opposite}
 use Rattle.meaning.specs.Rotas.{True, Met, Rota, Allowed}
 use Rattle.meaning.specs.Rules.{rules, left, right, InRange}
 use Rattle.meaning.proofs.ChainLaws.{reach-step, reach-trans, reach-flip, true-or-opposite}
-use Rattle.meaning.proofs.CodeLaws.{opposite-opposite, opposite-below, choice-below, late-or-early}
-use Rattle.meaning.proofs.General.{build, length-build, getD-build, build-le}
+use Rattle.meaning.proofs.CodeLaws.{opposite-opposite, opposite-below}
 
 -- no step leaves the set
 abbrev pub Closed : List ℕ → (ℕ → Type 0) → Type 0
@@ -21,17 +18,9 @@ Closed ws S = (a k b : ℕ) → Step ws a k b → S a → S b
 abbrev pub Consistent : (ℕ → Type 0) → Type 0
 Consistent S = (c : ℕ) → S c → S (opposite c) → ⊥
 
--- one code of each of the n choices
-abbrev pub Total : ℕ → (ℕ → Type 0) → Type 0
-Total n S = (v : ℕ) → v < n → S (late v) ⊎ S (early v)
-
 -- every true code of the rota is in the set
 abbrev pub Follows : ℕ → (ℕ → Type 0) → List ℕ → Type 0
 Follows n S r = (c : ℕ) → c < 2 * n → True r c → S c
-
--- the set that a list of marks stands for: the codes whose mark is not 0
-abbrev pub Marked : List ℕ → ℕ → Type 0
-Marked s c = 0 < getD s c 0
 
 -- the set with all that c reaches
 abbrev pub With : List ℕ → (ℕ → Type 0) → ℕ → ℕ → Type 0
@@ -94,21 +83,3 @@ spread-closed ws P a k b s h = (h .0, h .1, reach-closed ws (h .0) a k b s (h .2
 pub spread-consistent : (ws : List ℕ) (P : ℕ → Type 0) → ((c d : ℕ) → P c → P d → Reach ws c (opposite d) → ⊥) → Consistent (Spread ws P)
 spread-consistent ws P free e h k =
     free (h .0) (k .0) (h .1) (k .1) (reach-trans ws (h .0) e (opposite (k .0)) (h .2) (rw (opposite-opposite e) at (reach-flip ws (k .0) (opposite e) (k .2))))
-
--- the rota that a list of marks stands for: 1 where the choice's late code is marked
-abbrev pub rotaOf : ℕ → List ℕ → List ℕ
-rotaOf n s = build n (λ v. min 1 (getD s (late v) 0))
-
-pub marks-follow : (n : ℕ) (s : List ℕ) → Total n (Marked s) → Follows n (Marked s) (rotaOf n s)
-marks-follow n s total c h t =
-    let v = choiceOf c in
-    let u : min 1 (getD s (late v) 0) ≡ valueOf c = sym (getD-build n (λ v. min 1 (getD s (late v) 0)) v (choice-below n c h)) ∙ t in
-    ⊎-elim (λ e. subst (Marked s) (sym e) (omega arith))
-    (λ e. subst (Marked s) (sym e) (⊎-elim (λ m. omega arith) (λ m. m) (total v (choice-below n c h))))
-    (late-or-early c)
-
-pub marks-allowed : (n : ℕ) (ws s : List ℕ) → InRange n ws → Closed ws (Marked s) → Consistent (Marked s) → Total n (Marked s) → Allowed n ws (rotaOf n s)
-marks-allowed n ws s range closed cons total =
-    follows-allowed ws (Marked s) closed n (rotaOf n s) range cons
-    (record { long = length-build n _; bits = build-le n _ 1 (λ v. omega arith) })
-    (marks-follow n s total)
