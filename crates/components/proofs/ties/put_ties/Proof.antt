@@ -1,5 +1,5 @@
--- `put_ties` meets its contract. The invariant: the ties of the choices passed are written, and nothing from n on differs.
-use Prim.Native.Nat.{_+_, _-_, _*_}
+-- `put_ties` meets its contract. The invariant: the ties of the choices passed are written.
+use Prim.Native.Nat.{_+_, _-_, _*_, _≤_}
 use mathlib.Core.Path.{_≡_, ap, _∙_}
 use native.Mathlib.Omega.{arith}
 use borrow.Author.Needs.{needs}
@@ -8,10 +8,11 @@ use Rattle.components.proofs.ties.put_ties.Statement.{statement}
 use Rattle.components.proofs.ties.put_ties.Tie as tie
 use Rattle.meaning.specs.Codes.{late}
 use Rattle.moves.specs.Layout.{mark}
-use Rattle.components.proofs.Answers.{Putting, put-none, put-more, put-done}
+use Rattle.components.proofs.Answers.{tieOf, ties-put}
+use Rattle.meaning.proofs.AreaLaws.{Written, written-none, written-more}
 
 abbrev Inv-loop : tie.InvT-loop
-Inv-loop n work area₀ first v₀ area v = Putting n work area₀ area v
+Inv-loop n work area₀ first v₀ area v = (v ≤ n) × Written v (tieOf n work) area₀ area
 
 abbrev μ-loop : tie.MeasureT-loop
 μ-loop n work area₀ first v₀ area v = n - v
@@ -35,7 +36,7 @@ narrow-requires : tie.Need-narrow-requires Inv-loop μ-loop
 narrow-requires c κs = omega (arith, (c .settled-rank) .ensures, (c .before .before .before .pre) .0 .0)
 
 loop-holds : tie.Need-loop-holds Inv-loop μ-loop
-loop-holds c = put-none _ _ _
+loop-holds c = (omega arith, written-none _ _)
 
 narrow-requires-2 : tie.Need-narrow-requires-2 Inv-loop μ-loop
 narrow-requires-2 c κs = omega (arith, (c .before .before .before .before .before .before .pre) .0 .0)
@@ -53,7 +54,7 @@ mul-area : tie.Need-mul-area Inv-loop μ-loop
 mul-area c = omega (arith, (c .before .before .before .before .before .before .before .before .before .pre) .0 .0)
 
 slice-write-area : tie.Need-slice-write-area Inv-loop μ-loop
-slice-write-area c = omega (arith, (c .before .before .before .before .loop) .inv .long, (c .before .before .before .before .before .before .before .before .before .pre) .0 .2)
+slice-write-area c = omega (arith, (c .before .before .before .before .loop) .inv .1 .long, (c .before .before .before .before .before .before .before .before .before .pre) .0 .2)
 
 add-v : tie.Need-add-v Inv-loop μ-loop
 add-v c = omega arith
@@ -62,13 +63,13 @@ loop-less : tie.Need-loop-less Inv-loop μ-loop
 loop-less c = omega arith
 
 loop-again : tie.Need-loop-again Inv-loop μ-loop
-loop-again c = put-more ((c .before .before .before .loop-test) .taken) ((c .before .before .before .before .before .before .before .before .before .pre) .0 .2) (omega (arith, offset (c .before .before .before .before .before), marked (c))) ((c .before .before .before .before .loop) .inv)
+loop-again c = (omega arith, written-more _ ((c .before .before .before .before .loop) .inv .1) (omega (arith, (c .before .before .before .before .before .before .before .before .before .pre) .0 .2)) (omega (arith, offset (c .before .before .before .before .before), marked (c))))
 
 same-length : tie.Need-same-length Inv-loop μ-loop
-same-length c = (c .before .loop) .inv .long
+same-length c = (c .before .loop) .inv .1 .long
 
 returns : tie.Need-returns Inv-loop μ-loop
-returns c = put-done (omega arith) ((c .before .before .before .before .before .before .pre) .0 .2) ((c .before .loop) .inv)
+returns c = ties-put ((c .before .loop) .inv .0) (omega arith) ((c .before .before .before .before .before .before .pre) .0 .2) ((c .before .loop) .inv .1)
 
 pub put-ties-spec : {M : Type 1} → statement M
 put-ties-spec =
