@@ -14,9 +14,9 @@ use Rattle.meaning.proofs.ChainLaws.{chain-flip}
 use Rattle.meaning.proofs.ChainLength.{shortest-length}
 use Rattle.meaning.proofs.CodeLaws.{opposite-opposite, opposite-below}
 use Rattle.meaning.proofs.Exists.{shortest-exists}
+use Rattle.meaning.proofs.General.{same?}
 use Rattle.meaning.proofs.Sets.{Closed}
 use Rattle.meaning.proofs.ShortestLaws.{Distance, nearer}
-use Rattle.moves.proofs.Places.{same?}
 use Rattle.moves.proofs.Steps.{step-to, step-from}
 
 -- no marks: an empty set, which no step leaves

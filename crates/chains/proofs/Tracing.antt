@@ -11,8 +11,8 @@ use Rattle.meaning.specs.Codes.{opposite}
 use Rattle.moves.specs.Layout.{mark, Sizes}
 use Rattle.chains.proofs.Distances.{dist, distance, arrived}
 use Rattle.chains.proofs.Writing.{write-none, write-length, write-more}
+use Rattle.meaning.proofs.General.{same?}
 use Rattle.meaning.proofs.ShortestLaws.{step-unique, Nearing, nearing-shortest}
-use Rattle.moves.proofs.Places.{same?}
 use Rattle.moves.proofs.Steps.{step-to}
 
 -- nearing the opposite of c

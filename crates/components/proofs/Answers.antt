@@ -7,7 +7,7 @@ use native.Mathlib.Omega.{arith}
 use native.Mathlib.Numerals.{add-one}
 use lib.ListN.{length}
 use Rattle.components.specs.Leads.{leadOf, Leads, LowestOrNone, TiesPut}
-use Rattle.components.specs.Walk.{State, Nexts}
+use Rattle.components.specs.Walk.{State}
 use Rattle.meaning.specs.Chains.{Clash, LowestClash, Tied, Tie}
 use Rattle.meaning.specs.Codes.{late, early, opposite}
 use Rattle.meaning.specs.Rotas.{Possible, Impossible, First}
@@ -43,10 +43,6 @@ begin {n} {ws} {W} rd z =
       whole = λ x y l m. absurd (omega (arith, z x l));
       lead = λ x l m. absurd (omega (arith, z x l));
     }
-
--- and the rests of the lists are there
-pub nexts-of : {n : ℕ} {ws W : List ℕ} → Ready n ws W → Nexts n ws W
-nexts-of rd = record { nexts = λ e l. rd .lists .nexts e (omega arith) l }
 
 -- two codes have one mark exactly if they are tied
 module _ {n : ℕ} {ws W : List ℕ} (h : Leads n ws W) (x y : ℕ) (lx : x < 2 * n) (ly : y < 2 * n) where

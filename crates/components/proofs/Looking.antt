@@ -6,18 +6,18 @@ use mathlib.Core.List.{List}
 use native.Mathlib.Omega.{arith}
 use lib.ListN.{length, getD, set}
 use Rattle.components.specs.Leads.{settledRank}
-use Rattle.components.specs.Walk.{Met, Closed, Least, cursor, Nexts, Cursor, Old, Scanned, Stacked, Settled, across, Lone}
+use Rattle.components.specs.Walk.{Met, Closed, Least, cursor, Old, Scanned, Stacked, Settled, across, Lone}
 use Rattle.meaning.specs.Chains.{Step}
 use Rattle.meaning.specs.Codes.{opposite}
 use Rattle.moves.specs.Layout.{markAt, mark, trail, next, Tables, Sizes}
-use Rattle.moves.specs.Lists.{FirstEnd}
+use Rattle.moves.specs.Lists.{Nexts, Cursor, Passed}
 use Rattle.components.proofs.Settling.{mirrored}
 use Rattle.components.proofs.Storing.{beyond-refl, beyond-trans, beyond-mark}
 use Rattle.meaning.proofs.CodeLaws.{opposite-below}
-use Rattle.meaning.proofs.General.{below-or-from}
-use Rattle.moves.proofs.Places.{same?, mark-stored, mark-elsewhere}
+use Rattle.meaning.proofs.General.{same?}
+use Rattle.moves.proofs.Cursors.{cursor-next, cursor-passed}
+use Rattle.moves.proofs.Places.{mark-stored, mark-elsewhere}
 use Rattle.moves.proofs.Steps.{end-step, step-to}
-use Rattle.moves.proofs.Visiting.{left-of}
 
 -- the invariant of the loop of `scan`
 pub record Scanning (n : ℕ) (ws W : List ℕ) (a low e : ℕ) : Type 0 where
@@ -25,7 +25,7 @@ pub record Scanning (n : ℕ) (ws W : List ℕ) (a low e : ℕ) : Type 0 where
   pub less : low ≤ mark n W a
   pub why : (low ≡ mark n W a) ⊎ ((z : ℕ) × ((k : ℕ) × Step ws a k z) × (mark n W z ≡ low))
   pub cur : Cursor ws a e
-  pub seen : (i : ℕ) → i < length ws → getD ws i 0 ≡ opposite a → (e ≡ 0) ⊎ (i + 1 < e) → Old n W a i ⊎ Met n W low (getD ws (opposite i) 0)
+  pub seen : (i : ℕ) → i < length ws → getD ws i 0 ≡ opposite a → Passed e i → Old n W a i ⊎ Met n W low (getD ws (opposite i) 0)
 
 -- it holds before the first end
 pub scan-start : {n : ℕ} {ws W : List ℕ} {a low e : ℕ} → 0 < mark n W a → Cursor ws a (cursor n W a) → low ≡ mark n W a → e ≡ cursor n W a
@@ -42,42 +42,9 @@ scan-start {n} {ws} {W} {a} {low} {e} p c ql qe =
 -- one place of the list
 module _ {n : ℕ} {ws W : List ℕ} {a low e z e′ : ℕ} (s : Sizes n ws W) (nx : Nexts n ws W) (h : Scanning n ws W a low e) (p : 0 < e)
     (qz : z ≡ getD ws (opposite (e - 1)) 0) (qe : e′ ≡ next n W (e - 1)) where
-  -- the end is among the words
-  le : e - 1 < length ws
-  le = omega (arith, h .cur .cur p .0)
-
-  -- the list goes on behind it
-  rest : FirstEnd ws (getD ws (e - 1) 0) (e - 1 + 1) e′
-  rest = rw qe (nx .nexts (e - 1) le)
-
   -- it is a step from a to z
   pub scan-step : (k : ℕ) × Step ws a k z
-  scan-step = ((e - 1) / 2, end-step s le (h .cur .cur p .1) qz)
-
-  -- the next cursor is in the list
-  pub scan-cursor : Cursor ws a e′
-  scan-cursor = record { cur = λ u. (rest .found u .1, rest .found u .2 ∙ h .cur .cur p .1) }
-
-  -- less of the list is left
-  pub scan-less : left-of e′ < left-of e
-  scan-less =
-      ⊎-elim
-      (λ (q : e′ ≡ 0). omega (arith, s .short, s .even, le))
-      (λ (q : e′ ≢ 0). omega (arith, s .short, s .even, rest .found (omega arith) .0, rest .found (omega arith) .1))
-      (same? e′ 0)
-
-  -- a place that is behind the cursor now: this one, or one behind it before
-  behind : (i : ℕ) → i < length ws → getD ws i 0 ≡ opposite a → (e′ ≡ 0) ⊎ (i + 1 < e′) → (i ≡ e - 1) ⊎ (i + 1 < e)
-  behind i l q u =
-      ⊎-elim
-      (λ (v : i ≡ e - 1). inl v)
-      (λ (v : i ≢ e - 1). ⊎-elim
-      (λ (w : i < e - 1). inr (omega arith))
-      (λ (w : e - 1 ≤ i).
-      let g = rest .hit i (omega arith) l (q ∙ sym (h .cur .cur p .1)) in
-      absurd (⊎-elim (λ (x : e′ ≡ 0). omega (arith, g)) (λ (x : i + 1 < e′). omega (arith, g)) u))
-      (below-or-from i (e - 1)))
-      (same? i (e - 1))
+  scan-step = ((e - 1) / 2, end-step s (omega (arith, h .cur .at p .0)) (h .cur .at p .1) qz)
 
   -- a code that was met is taken into account
   pub scan-turn : {low′ : ℕ} → low′ ≤ low → 0 < low′ → (low′ ≡ low) ⊎ (low′ ≡ mark n W z) → low′ ≤ mark n W z → Scanning n ws W a low′ e′
@@ -89,11 +56,11 @@ module _ {n : ℕ} {ws W : List ℕ} {a low e z e′ : ℕ} (s : Sizes n ws W) (
             (λ (v : low′ ≡ low). rw v (h .why))
             (λ (v : low′ ≡ mark n W z). inr (z, scan-step, sym v))
             y;
-        cur = scan-cursor;
+        cur = cursor-next nx (h .cur) p qe;
         seen = λ i l q u. ⊎-elim
             (λ (v : i ≡ e - 1). inr (rw (v, ← qz) (omega arith, l1)))
-            (λ (v : i + 1 < e). ⊎-elim (λ w. inl w) (λ (w : Met n W low (getD ws (opposite i) 0)). inr (w .0, omega (arith, w .1))) (h .seen i l q (inr v)))
-            (behind i l q u);
+            (λ (v : Passed e i). ⊎-elim (λ w. inl w) (λ (w : Met n W low (getD ws (opposite i) 0)). inr (w .0, omega (arith, w .1))) (h .seen i l q v))
+            (cursor-passed nx (h .cur) p qe i l q u);
       }
 
   -- at a code that was not met the look stops
@@ -104,11 +71,11 @@ module _ {n : ℕ} {ws W : List ℕ} {a low e z e′ : ℕ} (s : Sizes n ws W) (
         pos = h .pos;
         less = h .less;
         why = h .why;
-        cur = scan-cursor;
+        cur = cursor-next nx (h .cur) p qe;
         seen = λ i l q u. ⊎-elim
             (λ (v : i ≡ e - 1). inr (inr (rw (v, ← qz) refl)))
-            (λ (v : i + 1 < e). ⊎-elim (λ w. inl w) (λ (w : Met n W low (getD ws (opposite i) 0)). inr (inl w)) (h .seen i l q (inr v)))
-            (behind i l q u);
+            (λ (v : Passed e i). ⊎-elim (λ w. inl w) (λ (w : Met n W low (getD ws (opposite i) 0)). inr (inl w)) (h .seen i l q v))
+            (cursor-passed nx (h .cur) p qe i l q u);
         new = λ u. rw f (step-to s a (scan-step .0) z (scan-step .1), r0, scan-step);
         end = λ u. absurd (omega arith);
       }
@@ -120,7 +87,7 @@ scan-end {n} {ws} {W} {a} {low} {e} h z =
       pos = h .pos;
       less = h .less;
       why = h .why;
-      cur = record { cur = λ u. absurd (omega arith) };
+      cur = record { at = λ u. absurd (omega arith) };
       seen = λ i l q u. ⊎-elim (λ w. inl w) (λ (w : Met n W low (getD ws (opposite i) 0)). inr (inl w)) (h .seen i l q (inl (omega arith)));
       new = λ u. absurd (omega arith);
       end = λ u. refl;

@@ -5,14 +5,16 @@ use mathlib.Core.Logic.{⊎-elim, _≢_}
 use mathlib.Core.List.{List}
 use native.Mathlib.Omega.{arith}
 use Rattle.components.specs.Leads.{Leads, Side}
-use Rattle.components.specs.Walk.{cursor, State, Nexts, Turned, Searched}
+use Rattle.components.specs.Walk.{cursor, State, Turned, Searched}
 use Rattle.meaning.specs.Codes.{opposite}
 use Rattle.moves.specs.Layout.{mark, trail, spare, Sizes}
+use Rattle.moves.specs.Lists.{Nexts}
 use Rattle.components.proofs.Storing.{Pushed}
 use Rattle.components.proofs.Walking.{alike, pushed}
 use Rattle.components.proofs.Ways.{words-of}
 use Rattle.meaning.proofs.CodeLaws.{opposite-below}
-use Rattle.moves.proofs.Places.{same?, sizes-long}
+use Rattle.meaning.proofs.General.{same?}
+use Rattle.moves.proofs.Places.{sizes-long}
 
 -- ---- the walks from one code and from all
 

@@ -6,19 +6,20 @@ use mathlib.Core.List.{List}
 use native.Mathlib.Omega.{arith}
 use lib.ListN.{length, getD}
 use Rattle.components.specs.Leads.{Lead, Side}
-use Rattle.components.specs.Walk.{Met, Closed, Least, cursor, Past, Dfs, State, Cursor, Old, Scanned, Stacked, Beyond, Settled, across, Lifted, Turned}
+use Rattle.components.specs.Walk.{Met, Closed, Least, cursor, Past, Dfs, State, Old, Scanned, Stacked, Beyond, Settled, across, Lifted, Turned}
 use Rattle.meaning.specs.Chains.{Step, Reach, Tied}
 use Rattle.meaning.specs.Codes.{opposite}
 use Rattle.moves.specs.Layout.{mark, trail, spare, next, Tables, Sizes}
+use Rattle.moves.specs.Lists.{Cursor}
 use Rattle.components.proofs.Settling.{alive, exact, round, collected, lives, mirrored}
 use Rattle.components.proofs.Storing.{beyond-refl, beyond-mark, Noted, Pushed}
 use Rattle.components.proofs.Walking.{alike, fits, deep, lowered, advanced, pushed, dropped}
 use Rattle.components.proofs.Ways.{join, once, turned-from, turned-to, words-of, step-lt, count-mono}
 use Rattle.meaning.proofs.ChainLaws.{reach-flip}
 use Rattle.meaning.proofs.CodeLaws.{opposite-opposite, opposite-below}
-use Rattle.meaning.proofs.General.{below-or-from}
+use Rattle.meaning.proofs.General.{same?, below-or-from}
 use Rattle.moves.proofs.Counts.{count-le, count-lt, count-more}
-use Rattle.moves.proofs.Places.{same?, mark-stored, mark-elsewhere}
+use Rattle.moves.proofs.Places.{mark-stored, mark-elsewhere}
 
 -- the end of a path of k places, and the code that stands there
 abbrev pub lastPlace : ℕ → List ℕ → ℕ → ℕ
@@ -50,7 +51,7 @@ module _ {n : ℕ} {ws W : List ℕ} {t k : ℕ} (sz : Sizes n ws W) (pk : 0 < k
 
   -- its cursor is in its list
   pub last-cursor : Cursor ws (lastCode n W k) (cursor n W (lastCode n W k))
-  last-cursor = record { cur = h .cur (lastPlace n W k) (last-of .place) }
+  last-cursor = record { at = h .cur (lastPlace n W k) (last-of .place) }
 
   -- after `scan`
   module _ {e low hit : ℕ} (f : Scanned n ws W (lastCode n W k) e low hit) where
@@ -79,7 +80,7 @@ module _ {n : ℕ} {ws W : List ℕ} {t k : ℕ} (sz : Sizes n ws W) (pk : 0 < k
     -- and the cursor fits a word
     pub cursor-lt : e < 65536
     cursor-lt =
-        ⊎-elim (λ (z : e ≡ 0). omega arith) (λ (z : e ≢ 0). omega (arith, f .cur .cur (omega arith) .0, sz .short, sz .even)) (same? e 0)
+        ⊎-elim (λ (z : e ≡ 0). omega arith) (λ (z : e ≢ 0). omega (arith, f .cur .at (omega arith) .0, sz .short, sz .even)) (same? e 0)
 
     -- a code that was not met has room on the stack and on the path
     pub hit-lt : 0 < hit → (hit - 1 < 2 * n) × (t < 2 * n) × (k < 2 * n)
@@ -123,7 +124,7 @@ module _ {n : ℕ} {ws W : List ℕ} {t k : ℕ} (sz : Sizes n ws W) (pk : 0 < k
     noted-state : hit ≡ 0 → State n ws W₁ t k
     noted-state q0 =
         alike (trail n W₁) (spare n W₁) (cursor n W₁) (λ p l. nt .trails p) (λ j l. nt .spares j) (λ x l. refl) (fits h)
-        (advanced noted-walk (k - 1) last-on-path (cursor n W₁) (nt .curs) (rw (nt .cur) (f .cur .cur))
+        (advanced noted-walk (k - 1) last-on-path (cursor n W₁) (nt .curs) (rw (nt .cur) (f .cur .at))
         (λ i l q u. ⊎-elim
         (λ (w : Old n W (lastCode n W k) i). noted-walk .seen (lastPlace n W k) i (last-of .place) l q w)
         (λ w. ⊎-elim
@@ -237,7 +238,7 @@ module _ {n : ℕ} {ws W : List ℕ} {t k : ℕ} (sz : Sizes n ws W) (pk : 0 < k
       pushed-state =
           advanced pushed-walk (k - 1) (omega arith) (cursor n W₂)
           (λ x l d. pushed-cursors x l ∙ nt .curs x l (λ q. d (q ∙ sym pushed-code)))
-          (rw (pushed-code, pushed-cursor) (f .cur .cur))
+          (rw (pushed-code, pushed-cursor) (f .cur .at))
           (λ i l q u. ⊎-elim
           (λ (w : Old n W (lastCode n W k) i). pushed-walk .seen (lastPlace n W₂ k) i (omega (arith, pushed-place, last-of .place)) l q (rw pushed-code w))
           (λ (w : Met n W low (getD ws (opposite i) 0) ⊎ (getD ws (opposite i) 0 + 1 ≡ hit)). ⊎-elim

@@ -9,9 +9,8 @@ use Rattle.components.specs.Walk.{In, Past, Dfs}
 use Rattle.meaning.specs.Chains.{Reach}
 use Rattle.meaning.specs.Codes.{opposite}
 use Rattle.components.proofs.Ways.{join, here, Words, reach-lt, count-mono}
-use Rattle.meaning.proofs.General.{below-or-from}
+use Rattle.meaning.proofs.General.{same?, below-or-from}
 use Rattle.moves.proofs.Counts.{count-le, count-lt, count-more}
-use Rattle.moves.proofs.Places.{same?}
 
 -- ---- the same walk over other functions
 

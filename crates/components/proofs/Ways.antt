@@ -11,8 +11,7 @@ use Rattle.moves.specs.Layout.{Sizes}
 use Rattle.moves.specs.Walks.{countOf}
 use Rattle.meaning.proofs.ChainLaws.{reach-trans, reach-flip, reach-step}
 use Rattle.meaning.proofs.CodeLaws.{opposite-opposite}
-use Rattle.meaning.proofs.General.{below-or-from}
-use Rattle.moves.proofs.Places.{same?}
+use Rattle.meaning.proofs.General.{same?, below-or-from}
 use Rattle.moves.proofs.Steps.{other-end-below, word-below, step-end}
 
 -- two ways in a row
@@ -50,7 +49,7 @@ pub words-of : {n : ℕ} {ws W : List ℕ} → Sizes n ws W → Words (2 * n) ws
 words-of {n} {ws} s =
     record {
       inside = λ e l. word-below s (opposite e) (other-end-below e (length ws) (s .even) l);
-      ends = λ a k b st. step-end s st;
+      ends = λ a k b st. let w = step-end s st in (w .0, w .1, w .2, w .3);
     }
 
 -- what a code leads to and what it reaches are codes

@@ -8,7 +8,7 @@ use lib.ListN.{length, getD, set}
 use Rattle.meaning.specs.Chains.{Step, Reach, Tied}
 use Rattle.meaning.specs.Codes.{opposite}
 use Rattle.moves.specs.Layout.{head, mark, trail, spare, next, headAt, markAt, trailAt, spareAt}
-use Rattle.moves.specs.Lists.{FirstEnd}
+use Rattle.moves.specs.Lists.{FirstEnd, Cursor, Passed}
 use Rattle.moves.specs.Walks.{countOf}
 use Rattle.components.specs.Leads.{Lead, Side, settledRank}
 use Rattle.components.specs.declared.scan.Unmet.{Unmet}
@@ -64,7 +64,7 @@ pub record Dfs (N : ℕ) (ws : List ℕ) (r s d cu : ℕ → ℕ) (t k : ℕ) : 
   -- a cursor on the stack is 0 or in its list
   pub cur : (p : ℕ) → p < t → 0 < cu (s p) → (cu (s p) ≤ length ws) × (getD ws (cu (s p) - 1) 0 ≡ opposite (s p))
   -- the ends before a cursor are taken into account
-  pub seen : (p e : ℕ) → p < t → e < length ws → getD ws e 0 ≡ opposite (s p) → (cu (s p) ≡ 0) ⊎ (e + 1 < cu (s p)) → Past r s t p (getD ws (opposite e) 0)
+  pub seen : (p e : ℕ) → p < t → e < length ws → getD ws e 0 ≡ opposite (s p) → Passed (cu (s p)) e → Past r s t p (getD ws (opposite e) 0)
   -- what is tied to a settled code is settled
   pub whole : (x y : ℕ) → x < N → N < r x → Tied ws x y → N < r y
   -- the rank of a settled code tells its lead
@@ -73,17 +73,9 @@ pub record Dfs (N : ℕ) (ws : List ℕ) (r s d cu : ℕ → ℕ) (t k : ℕ) : 
 abbrev pub State : ℕ → List ℕ → List ℕ → ℕ → ℕ → Type 0
 State n ws W t k = Dfs (2 * n) ws (mark n W) (trail n W) (spare n W) (cursor n W) t k
 
--- the rests of the lists
-pub record Nexts (n : ℕ) (ws W : List ℕ) : Type 0 where
-  pub nexts : (e : ℕ) → e < length ws → FirstEnd ws (getD ws e 0) (e + 1) (next n W e)
-
--- e is 0 or 1 more than an end in the list of a
-pub record Cursor (ws : List ℕ) (a e : ℕ) : Type 0 where
-  pub cur : 0 < e → (e ≤ length ws) × (getD ws (e - 1) 0 ≡ opposite a)
-
 -- an end of the list of a was taken into account before
 abbrev pub Old : ℕ → List ℕ → ℕ → ℕ → Type 0
-Old n W a i = (cursor n W a ≡ 0) ⊎ (i + 1 < cursor n W a)
+Old n W a i = Passed (cursor n W a) i
 
 -- z has a rank, no lower than low
 abbrev pub Met : ℕ → List ℕ → ℕ → ℕ → Type 0
@@ -100,7 +92,7 @@ pub record Scanned (n : ℕ) (ws W : List ℕ) (a e low hit : ℕ) : Type 0 wher
   pub less : low ≤ mark n W a
   pub why : (low ≡ mark n W a) ⊎ ((z : ℕ) × ((k : ℕ) × Step ws a k z) × (mark n W z ≡ low))
   pub cur : Cursor ws a e
-  pub seen : (i : ℕ) → i < length ws → getD ws i 0 ≡ opposite a → (e ≡ 0) ⊎ (i + 1 < e)
+  pub seen : (i : ℕ) → i < length ws → getD ws i 0 ≡ opposite a → Passed e i
       → Old n W a i ⊎ Met n W low (getD ws (opposite i) 0) ⊎ (getD ws (opposite i) 0 + 1 ≡ hit)
   pub new : 0 < hit → (hit - 1 < 2 * n) × (mark n W (hit - 1) ≡ 0) × ((k : ℕ) × Step ws a k (hit - 1))
   pub end : hit ≡ 0 → e ≡ 0

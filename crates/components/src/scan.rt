@@ -8,7 +8,8 @@ use moves::ends::other_end;
 use moves::layout::next_of;
 ghost use Prim.Native.Nat.{_*_, _<_};
 ghost use Rattle.moves.specs.Layout.{Sizes, mark};
-ghost use Rattle.components.specs.Walk.{Nexts, Cursor, cursor, orZero, Scanned};
+ghost use Rattle.moves.specs.Lists.{Nexts, Cursor};
+ghost use Rattle.components.specs.Walk.{cursor, orZero, Scanned};
 
 // A code that was not met yet, if there is one.
 pub enum Unmet {

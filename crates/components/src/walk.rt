@@ -14,9 +14,9 @@ use moves::layout::trail_code;
 ghost use mathlib.Core.Path.{_≡_};
 ghost use Prim.Native.Nat.{ℕ, _*_, _<_};
 ghost use Rattle.moves.specs.Layout.{Sizes, mark};
-ghost use Rattle.moves.specs.Lists.{Ready};
+ghost use Rattle.moves.specs.Lists.{Nexts, Ready};
 ghost use Rattle.components.specs.Leads.{Leads, Side};
-ghost use Rattle.components.specs.Walk.{Nexts, State, Turned, Searched};
+ghost use Rattle.components.specs.Walk.{State, Turned, Searched};
 
 // The counts of the stack and of the path.
 struct Ends {

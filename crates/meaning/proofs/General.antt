@@ -1,11 +1,11 @@
 -- Numbers and lists in general: what the libraries do not have.
 use mathlib.Core.Path.{_≡_, refl, ap, subst}
-use mathlib.Core.Logic.{_⊎_, inl, inr, ⊎-elim}
+use mathlib.Core.Logic.{_⊎_, inl, inr, ⊎-elim, _≢_}
 use mathlib.Core.List.{List, [], _∷_}
 use Prim.Native.Nat.{ℕ, zero, suc, _≤_, _<_}
 use native.Mathlib.Omega.{arith}
 use native.Mathlib.Nat.{le-of-suc-le-suc, not-suc-le-zero}
-use native.Mathlib.Decide.{decLt}
+use native.Mathlib.Decide.{decLt, ℕ-discrete}
 use lib.ListN.{length, getD}
 
 -- two numbers: the first is less, or equal, or greater
@@ -15,6 +15,10 @@ compared a b =
       | yes h ↦ inl h
       | no h ↦ inr (elim (decLt b a) [ yes k ↦ inr k | no k ↦ inl (omega arith) ])
     ]
+
+-- they are equal or not
+pub same? : (a b : ℕ) → (a ≡ b) ⊎ (a ≢ b)
+same? a b = elim (ℕ-discrete a b) [ yes e ↦ inl e | no e ↦ inr e ]
 
 -- a number is below another, or at or past it
 pub below-or-from : (a b : ℕ) → (a < b) ⊎ (b ≤ a)

@@ -8,8 +8,7 @@ use lib.ListN.{length, length-append}
 use Rattle.meaning.specs.Chains.{Step, Chain}
 use Rattle.moves.specs.Walks.{Trail, Visited}
 use Rattle.meaning.proofs.ChainLaws.{chain-append}
-use Rattle.meaning.proofs.General.{below-or-from}
-use Rattle.moves.proofs.Places.{same?}
+use Rattle.meaning.proofs.General.{same?, below-or-from}
 use Rattle.moves.proofs.Trails.{push-onto}
 
 -- a chain of one rule less than m leads from src to x

@@ -4,7 +4,7 @@ use mathlib.Core.Path.{_≡_, refl, subst}
 use mathlib.Core.Logic.{⊎-elim, _≢_}
 use native.Mathlib.Omega.{arith}
 use Rattle.moves.specs.Walks.{countOf}
-use Rattle.moves.proofs.Places.{same?}
+use Rattle.meaning.proofs.General.{same?}
 
 -- at most all of them
 pub count-le : (f : ℕ → ℕ) (k : ℕ) → countOf f k ≤ k

@@ -5,6 +5,7 @@ pub mod Linking
 pub mod Counts
 pub mod Trails
 pub mod Breadth
+pub mod Cursors
 pub mod Visiting
 pub mod Spreading
 pub mod Clearing

@@ -8,7 +8,8 @@ use lib.ListN.{length, getD, set, length-set}
 use lib.Seq.{getD-set-same, getD-set-other}
 use Rattle.moves.specs.Layout.{headAt, markAt, trailAt, spareAt, nextAt, head, next, Sizes}
 use Rattle.moves.specs.Lists.{FirstEnd, Lists, linked, Beside, Indexed}
-use Rattle.moves.proofs.Places.{same?, sizes-long}
+use Rattle.meaning.proofs.General.{same?}
+use Rattle.moves.proofs.Places.{sizes-long}
 use Rattle.moves.proofs.Steps.{word-below}
 
 -- one end more, that holds another code

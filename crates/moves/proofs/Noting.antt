@@ -10,8 +10,8 @@ use Rattle.moves.specs.Layout.{spareAt, trail, spare, Tables, Spared}
 use Rattle.moves.specs.Learning.{OnTrail, Shaded, Flagged, Noted, Plain}
 use Rattle.moves.specs.Walks.{Listed}
 use Rattle.meaning.proofs.CodeLaws.{opposite-opposite, opposite-below}
-use Rattle.meaning.proofs.General.{below-or-from}
-use Rattle.moves.proofs.Places.{same?, spared-refl, spared-trans, spare-stored, spare-elsewhere, spare-spared}
+use Rattle.meaning.proofs.General.{same?, below-or-from}
+use Rattle.moves.proofs.Places.{spared-refl, spared-trans, spare-stored, spare-elsewhere, spare-spared}
 use Rattle.moves.proofs.Trails.{trail-few}
 
 -- a place more of the trail

@@ -1,18 +1,14 @@
 -- What stands in each table after a store in one of them.
 use mathlib.Core.Path.{_≡_, refl, _∙_}
-use mathlib.Core.Logic.{_⊎_, inl, inr, _≢_}
+use mathlib.Core.Logic.{_≢_}
 use mathlib.Core.List.{List}
 use Prim.Native.Nat.{ℕ, _*_, _<_}
-use native.Mathlib.Decide.{ℕ-discrete}
 use native.Mathlib.Omega.{arith}
 use lib.ListN.{length, set, length-set}
 use lib.Seq.{getD-set-same, getD-set-other}
 use Rattle.moves.specs.Layout.{headAt, markAt, trailAt, spareAt, nextAt, mark, trail, spare, Tables, Sizes, Apart, Spared}
 use Rattle.moves.specs.Lists.{Ready}
-
--- two numbers are equal or not
-pub same? : (a b : ℕ) → (a ≡ b) ⊎ (a ≢ b)
-same? a b = elim (ℕ-discrete a b) [ yes e ↦ inl e | no e ↦ inr e ]
+pub use Rattle.meaning.proofs.General.{same?}
 
 -- nothing differs; and what differs nowhere in two turns differs nowhere in both
 pub apart-refl : (n : ℕ) (W : List ℕ) → Apart n W W

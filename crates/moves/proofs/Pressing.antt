@@ -13,9 +13,9 @@ use Rattle.moves.specs.Trials.{Pulled, Pressed}
 use Rattle.moves.specs.Walks.{GoesOn, Listed, Held, Holding, Touched}
 use Rattle.meaning.proofs.ChainLaws.{reach-refl, reach-step, reach-trans}
 use Rattle.meaning.proofs.CodeLaws.{opposite-opposite}
-use Rattle.meaning.proofs.General.{below-or-from}
+use Rattle.meaning.proofs.General.{same?, below-or-from}
 use Rattle.meaning.proofs.Sets.{Closed, Consistent}
-use Rattle.moves.proofs.Places.{same?, apart-trans, tables-apart}
+use Rattle.moves.proofs.Places.{apart-trans, tables-apart}
 use Rattle.moves.proofs.Steps.{end-step, step-to}
 use Rattle.moves.proofs.Trails.{trail-room, onto-trans}
 use Rattle.moves.proofs.Visiting.{touch-others, Touching, touching, Visiting, visit-turn, visit-all}
@@ -82,7 +82,7 @@ pub pull-stop : {n : ℕ} {ws : List ℕ} {a : ℕ} {W₀ : List ℕ} {t₀ : �
     Sizes n ws W₀ → Pulling n ws a W₀ t₀ W t e → 0 < e → b ≡ getD ws (opposite (e - 1)) 0 → (x ≡ b) × (t′ ≡ t) × (W′ ≡ W) × (0 < mark n W (opposite b)) →
     Pulled n ws a W₀ t₀ W′ t′ × ((k : ℕ) × Step ws a k x) × (0 < mark n W′ (opposite x))
 pull-stop {n} {ws} {a} {W₀} {t₀} {W} {t} {e} {b} {x} {W′} {t′} s r p qb d =
-    rw (d .0, d .1, d .2) (pulled r, ((e - 1) / 2, end-step s (omega (arith, r .visit .cur p .0)) (r .visit .cur p .1) qb), d .3)
+    rw (d .0, d .1, d .2) (pulled r, ((e - 1) / 2, end-step s (omega (arith, r .visit .cur .at p .0)) (r .visit .cur .at p .1) qb), d .3)
 
 -- a walk from src on top of what E holds in s places: the places from s to h are visited
 pub record Going (n : ℕ) (ws : List ℕ) (src : ℕ) (E : List ℕ) (s : ℕ) (W : List ℕ) (h t : ℕ) : Type 0 where

@@ -34,12 +34,12 @@ module _ {n : ℕ} {ws W : List ℕ} (s : Sizes n ws W) where
       let st : Step ws (opposite (getD ws e 0)) (e / 2) (getD ws (opposite e) 0) = edge-step ws e (omega (arith, s .even)) in
       rw leads (rw back at st)
 
-  -- a step has such an end
-  pub step-end : {a k b : ℕ} → Step ws a k b → (e : ℕ) × (e < length ws) × (getD ws e 0 ≡ opposite a) × (getD ws (opposite e) 0 ≡ b)
+  -- a step has such an end, of its own rule
+  pub step-end : {a k b : ℕ} → Step ws a k b → (e : ℕ) × (e < length ws) × (getD ws e 0 ≡ opposite a) × (getD ws (opposite e) 0 ≡ b) × (e / 2 ≡ k)
   step-end {a} {k} {b} st =
       ⊎-elim
-      (λ h. (late k, omega (arith, st .isRule, s .even), h .0, ap (λ (i : ℕ). getD ws i 0) (opposite-late k) ∙ h .1))
-      (λ h. (early k, omega (arith, st .isRule, s .even), h .0, ap (λ (i : ℕ). getD ws i 0) (opposite-early k) ∙ h .1))
+      (λ h. (late k, omega (arith, st .isRule, s .even), h .0, ap (λ (i : ℕ). getD ws i 0) (opposite-late k) ∙ h .1, omega arith))
+      (λ h. (early k, omega (arith, st .isRule, s .even), h .0, ap (λ (i : ℕ). getD ws i 0) (opposite-early k) ∙ h .1, omega arith))
       (st .leads)
 
   -- a step leads to a code

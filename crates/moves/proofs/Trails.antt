@@ -4,8 +4,8 @@ use mathlib.Core.Path.{_≡_, refl, sym, ap, _∙_, subst}
 use mathlib.Core.Logic.{⊎-elim, _≢_}
 use native.Mathlib.Omega.{arith}
 use Rattle.moves.specs.Walks.{Trail, Onto}
+use Rattle.meaning.proofs.General.{same?}
 use Rattle.moves.proofs.Counts.{count-le, count-lt, count-none, count-same, count-more}
-use Rattle.moves.proofs.Places.{same?}
 
 -- the trail has no more places than there are codes
 pub trail-few : {N : ℕ} {mk q : ℕ → ℕ} {t : ℕ} → Trail N mk q t → t ≤ N

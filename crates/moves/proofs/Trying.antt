@@ -11,8 +11,9 @@ use Rattle.moves.specs.Trials.{Pressed, Grew, GaveUp}
 use Rattle.moves.specs.Walks.{GoesOn, Listed, Held, Holding, Undone}
 use Rattle.meaning.proofs.ChainLaws.{reach-trans, reach-flip}
 use Rattle.meaning.proofs.CodeLaws.{opposite-opposite, opposite-below}
+use Rattle.meaning.proofs.General.{same?}
 use Rattle.meaning.proofs.Sets.{Closed, closed-reach}
-use Rattle.moves.proofs.Places.{same?, apart-trans}
+use Rattle.moves.proofs.Places.{apart-trans}
 use Rattle.moves.proofs.Trails.{trail-few, trail-none}
 
 -- a code outside the set has no mark

@@ -8,11 +8,11 @@ use lib.ListN.{length, getD, set, length-set}
 use Rattle.meaning.specs.Chains.{Step}
 use Rattle.meaning.specs.Codes.{opposite}
 use Rattle.moves.specs.Layout.{markAt, trailAt, head, mark, trail, next, Tables, Sizes, Apart}
-use Rattle.moves.specs.Lists.{FirstEnd, Ready}
+use Rattle.moves.specs.Lists.{Cursor, Passed, Ready}
 use Rattle.moves.specs.Walks.{GoesOn, Listed, Touched, Visited}
-use Rattle.meaning.proofs.CodeLaws.{opposite-below}
-use Rattle.meaning.proofs.General.{below-or-from}
-use Rattle.moves.proofs.Places.{same?, apart-refl, apart-trans, mark-stored, mark-elsewhere, mark-trail, mark-apart, trail-stored, trail-elsewhere, trail-mark, trail-apart, tables-apart}
+use Rattle.meaning.proofs.General.{same?, below-or-from}
+use Rattle.moves.proofs.Cursors.{nexts-of, head-first, first-cursor, none-passed, left-of, cursor-next, cursor-passed, cursor-less}
+use Rattle.moves.proofs.Places.{apart-refl, apart-trans, mark-stored, mark-elsewhere, mark-trail, mark-apart, trail-stored, trail-elsewhere, trail-mark, trail-apart, tables-apart}
 use Rattle.moves.proofs.Steps.{other-end-below, word-below, end-step, step-end, step-to}
 use Rattle.moves.proofs.Trails.{trail-room, push-onto, onto-refl, onto-trans}
 
@@ -75,33 +75,26 @@ touching {n} {W} {b} {v} {t} {W′} {t′} lw r lb pv d =
     rw (res .0, res .1) (record { apart = apart-refl n W; onto = onto-refl r; new = λ i l m. absurd (omega arith); has = omega arith }))
     (same? (mark n W b) 0)
 
--- the invariant of the loop of `visit`: the ends of the list before e - 1, or all of them where e is 0, lead to marked codes
+-- the invariant of the loop of `visit`: the ends that the cursor e has passed lead to marked codes
 pub record Visiting (n : ℕ) (ws : List ℕ) (a v : ℕ) (W₀ : List ℕ) (t₀ : ℕ) (W : List ℕ) (t e : ℕ) : Type 0 where
   pub apart : Apart n W₀ W
   pub onto : GoesOn n W₀ t₀ W t
   pub new : (i : ℕ) → t₀ ≤ i → i < t → ((k : ℕ) × Step ws a k (trail n W i)) × (mark n W (trail n W i) ≡ v)
-  pub cur : 0 < e → (e ≤ length ws) × (getD ws (e - 1) 0 ≡ opposite a)
-  pub seen : (k : ℕ) → k < length ws → getD ws k 0 ≡ opposite a → (e ≡ 0) ⊎ (k + 1 < e) → 0 < mark n W (getD ws (opposite k) 0)
+  pub cur : Cursor ws a e
+  pub seen : (k : ℕ) → k < length ws → getD ws k 0 ≡ opposite a → Passed e k → 0 < mark n W (getD ws (opposite k) 0)
 
 -- at its start nothing is new
 pub visit-start : {n : ℕ} {ws W : List ℕ} {t a v e : ℕ} →
     Ready n ws W → Listed n W t → a < 2 * n → e ≡ head n W (opposite a) → Visiting n ws a v W t W t e
 visit-start {n} {ws} {W} {t} {a} {v} {e} rd r la qe =
-    let f : FirstEnd ws (opposite a) 0 e = rw qe (rd .lists .heads (opposite a) (opposite-below n a la)) in
+    let f = head-first rd la qe in
     record {
       apart = apart-refl n W;
       onto = onto-refl r;
       new = λ i l m. absurd (omega arith);
-      cur = λ p. (f .found p .1, f .found p .2);
-      seen = λ k l q s.
-          let g = f .hit k (omega arith) l q in
-          ⊎-elim (λ (z : e ≡ 0). omega (arith, g)) (λ (z : k + 1 < e). omega (arith, g)) s;
+      cur = first-cursor f;
+      seen = λ k l q u. absurd (none-passed f (omega arith) l q u);
     }
-
--- the list goes on
-next-end : {n : ℕ} {ws W₀ W : List ℕ} {e e′ : ℕ} →
-    Ready n ws W₀ → Apart n W₀ W → 0 < e → e ≤ length ws → e′ ≡ next n W (e - 1) → FirstEnd ws (getD ws (e - 1) 0) (e - 1 + 1) e′
-next-end {n} {ws} {W₀} {W} {e} {e′} rd ap p le qe = rw (qe ∙ ap .nexts (e - 1)) (rd .lists .nexts (e - 1) (omega arith) (omega arith))
 
 -- a turn touches the code at the other end, and goes on in the list
 pub visit-turn : {n : ℕ} {ws : List ℕ} {a v : ℕ} {W₀ : List ℕ} {t₀ : ℕ} {W : List ℕ} {t e b : ℕ} {W′ : List ℕ} {t′ e′ : ℕ} →
@@ -109,11 +102,11 @@ pub visit-turn : {n : ℕ} {ws : List ℕ} {a v : ℕ} {W₀ : List ℕ} {t₀ :
     Visiting n ws a v W₀ t₀ W′ t′ e′
 visit-turn {n} {ws} {a} {v} {W₀} {t₀} {W} {t} {e} {b} {W′} {t′} {e′} rd pv r p qb d qe =
     let s = rd .sizes in
-    let lk : e - 1 < length ws = omega (arith, r .cur p .0) in
-    let st : Step ws a ((e - 1) / 2) b = end-step s lk (r .cur p .1) qb in
+    let lk : e - 1 < length ws = omega (arith, r .cur .at p .0) in
+    let st : Step ws a ((e - 1) / 2) b = end-step s lk (r .cur .at p .1) qb in
     let g : Touching n W b v t W′ t′ = touching (tables-apart s (r .apart)) (r .onto .listed) (step-to s a ((e - 1) / 2) b st) pv d in
     let apart = apart-trans (r .apart) (g .apart) in
-    let f : FirstEnd ws (getD ws (e - 1) 0) (e - 1 + 1) e′ = next-end rd apart p (r .cur p .0) qe in
+    let q : e′ ≡ next n W₀ (e - 1) = qe ∙ apart .nexts (e - 1) in
     record {
       apart = apart;
       onto = onto-trans (r .onto) (g .onto);
@@ -124,36 +117,20 @@ visit-turn {n} {ws} {a} {v} {W₀} {t₀} {W} {t} {e} {b} {W′} {t′} {e′} r
           rw (g .onto .old i x) (o .0, g .onto .kept (trail n W i) (ins .0) (ins .1) ∙ o .1))
           (λ (x : t ≤ i). rw (g .new i x m .0) (((e - 1) / 2, st), g .new i x m .1))
           (below-or-from i t);
-      cur = λ u. (f .found u .1, f .found u .2 ∙ r .cur p .1);
-      seen = λ k l q u. ⊎-elim
+      cur = cursor-next (nexts-of rd) (r .cur) p q;
+      seen = λ k l h u. ⊎-elim
           (λ (z : k ≡ e - 1). rw (z, ← qb) (g .has))
-          (λ (z : k ≢ e - 1). ⊎-elim
-          (λ (m : k < e - 1).
-          let before = r .seen k l q (inr (omega arith)) in
+          (λ (z : Passed e k).
+          let before = r .seen k l h z in
           omega (arith, before, g .onto .kept (getD ws (opposite k) 0) (word-below s (opposite k) (other-end-below k (length ws) (s .even) l)) before))
-          (λ (m : e - 1 ≤ k).
-          let hit = f .hit k (omega arith) l (q ∙ sym (r .cur p .1)) in
-          ⊎-elim (λ (w : e′ ≡ 0). omega (arith, hit)) (λ (w : k + 1 < e′). omega (arith, hit)) u)
-          (below-or-from k (e - 1)))
-          (same? k (e - 1));
+          (cursor-passed (nexts-of rd) (r .cur) p q k l h u);
     }
-
--- what is left of a list whose rest is e: nothing where e is 0
-abbrev pub left-of : ℕ → ℕ
-left-of e = 65536 - (e + 65536 * (1 - e))
 
 -- a turn leaves less of it
 pub visit-less : {n : ℕ} {ws : List ℕ} {a v : ℕ} {W₀ : List ℕ} {t₀ : ℕ} {W : List ℕ} {t e b : ℕ} {W′ : List ℕ} {t′ e′ : ℕ} →
     Ready n ws W₀ → 0 < v → Visiting n ws a v W₀ t₀ W t e → 0 < e → b ≡ getD ws (opposite (e - 1)) 0 → Touched n W b v t W′ t′ → e′ ≡ next n W′ (e - 1) →
     left-of e′ < left-of e
-visit-less {n} {ws} {a} {v} {W₀} {t₀} {W} {t} {e} {b} {W′} {t′} {e′} rd pv r p qb d qe =
-    let le : e ≤ length ws = r .cur p .0 in
-    ⊎-elim
-    (λ (z : e′ ≡ 0). omega (arith, rd .sizes .short, rd .sizes .even))
-    (λ (z : e′ ≢ 0).
-    let f : FirstEnd ws (getD ws (e - 1) 0) (e - 1 + 1) e′ = next-end rd (visit-turn rd pv r p qb d qe .apart) p le qe in
-    omega (arith, rd .sizes .short, rd .sizes .even, f .found (omega arith) .0, f .found (omega arith) .1))
-    (same? e′ 0)
+visit-less {e = e} rd pv r p qb d qe = cursor-less (nexts-of rd) (r .cur) p (qe ∙ visit-turn rd pv r p qb d qe .apart .nexts (e - 1)) (rd .sizes)
 
 -- at the end of the list all that a leads to has a mark
 pub visit-all : {n : ℕ} {ws : List ℕ} {a v : ℕ} {W₀ : List ℕ} {t₀ : ℕ} {W : List ℕ} {t e : ℕ} →
@@ -166,10 +143,3 @@ visit-all {n} {ws} {a} {v} {W₀} {t₀} {W} {t} {e} s r z k b st =
 pub visit-done : {n : ℕ} {ws : List ℕ} {a v : ℕ} {W₀ : List ℕ} {t₀ : ℕ} {W : List ℕ} {t e : ℕ} →
     Sizes n ws W₀ → Visiting n ws a v W₀ t₀ W t e → e ≤ 0 → Apart n W₀ W × Visited (2 * n) ws a v (mark n W₀) (trail n W₀) t₀ (mark n W) (trail n W) t
 visit-done s r z = (r .apart, record { onto = r .onto; new = r .new; all = visit-all s r z })
-
--- the code at the other end of the end e - 1
-pub other-code : {n : ℕ} {ws W₀ : List ℕ} {e k b : ℕ} →
-    Sizes n ws W₀ → 0 < e → e ≤ length ws → k ≡ opposite (e - 1) → b ≡ getD ws k 0 → (k < length ws) × (b < 2 * n)
-other-code {n} {ws} {W₀} {e} {k} {b} s p le qk qb =
-    let l : k < length ws = rw qk (other-end-below (e - 1) (length ws) (s .even) (omega arith)) in
-    (l, omega (arith, qb, word-below s k l))

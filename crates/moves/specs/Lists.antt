@@ -1,8 +1,10 @@
 -- What the occurrence lists mean. An end is a place in the words ws; rule k has the ends 2k and 2k + 1.
 use mathlib.Core.Path.{_≡_}
+use mathlib.Core.Logic.{_⊎_}
 use mathlib.Core.List.{List}
 use Prim.Native.Nat.{ℕ, _+_, _-_, _*_, _≤_, _<_}
 use lib.ListN.{length, getD, set}
+use Rattle.meaning.specs.Codes.{opposite}
 use Rattle.moves.specs.Layout.{headAt, nextAt, head, mark, trail, spare, next, Sizes}
 
 -- h is 1 more than the least end from `from` on that holds c, or 0 where there is none
@@ -14,6 +16,18 @@ pub record FirstEnd (ws : List ℕ) (c from h : ℕ) : Type 0 where
 pub record Lists (n : ℕ) (ws : List ℕ) (from : ℕ) (W : List ℕ) : Type 0 where
   pub heads : (c : ℕ) → c < 2 * n → FirstEnd ws c from (head n W c)
   pub nexts : (e : ℕ) → from ≤ e → e < length ws → FirstEnd ws (getD ws e 0) (e + 1) (next n W e)
+
+-- the rests of the lists
+pub record Nexts (n : ℕ) (ws W : List ℕ) : Type 0 where
+  pub nexts : (e : ℕ) → e < length ws → FirstEnd ws (getD ws e 0) (e + 1) (next n W e)
+
+-- a cursor along the list by which a leads on, that of its opposite: 1 more than an end of the list, or 0 behind the last
+pub record Cursor (ws : List ℕ) (a e : ℕ) : Type 0 where
+  pub at : 0 < e → (e ≤ length ws) × (getD ws (e - 1) 0 ≡ opposite a)
+
+-- the cursor e is past the end k of its list
+abbrev pub Passed : ℕ → ℕ → Type 0
+Passed e k = (e ≡ 0) ⊎ (k + 1 < e)
 
 -- the end e in front of the list of c
 abbrev pub linked : ℕ → List ℕ → ℕ → ℕ → List ℕ

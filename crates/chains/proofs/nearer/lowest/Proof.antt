@@ -9,10 +9,10 @@ use Rattle.chains.proofs.nearer.lowest.Statement.{statement}
 use Rattle.chains.proofs.nearer.lowest.Tie as tie
 use Rattle.meaning.specs.Codes.{opposite}
 use Rattle.moves.specs.Layout.{head}
-use Rattle.chains.proofs.Picking.{Picking, pick-start, pick-less, pick-found, pick-pass, pick-first, pick-done}
+use Rattle.chains.proofs.Picking.{Picking, pick-start, pick-found, pick-pass, pick-first, pick-done}
 use Rattle.meaning.proofs.CodeLaws.{opposite-opposite, opposite-below}
+use Rattle.moves.proofs.Cursors.{nexts-of, left-of, cursor-less}
 use Rattle.moves.proofs.Places.{tables}
-use Rattle.moves.proofs.Visiting.{left-of}
 
 abbrev Inv-loop : tie.InvT-loop
 Inv-loop n words work d held found₀ rule₀ e₀ found rule e = Picking n words work (opposite held) d found rule e
@@ -38,16 +38,16 @@ sub-end : tie.Need-sub-end Inv-loop μ-loop
 sub-end c = omega arith
 
 mark-across-requires : tie.Need-mark-across-requires Inv-loop μ-loop
-mark-across-requires c κs = ((c .before .before .before .before .before .before .before .pre) .0 .sizes, omega (arith, (c .before .before .loop) .inv .cur ((c .before .loop-test) .taken) .0))
+mark-across-requires c κs = ((c .before .before .before .before .before .before .before .pre) .0 .sizes, omega (arith, (c .before .before .loop) .inv .cur .at ((c .before .loop-test) .taken) .0))
 
 rule-of-requires : tie.Need-rule-of-requires Inv-loop μ-loop
-rule-of-requires c κs = omega (arith, (c .before .before .before .before .before .before .before .before .before .pre) .0 .sizes .short, (c .before .before .before .before .before .before .before .before .before .pre) .0 .sizes .even, (c .before .before .before .before .loop) .inv .cur ((c .before .before .before .loop-test) .taken) .0)
+rule-of-requires c κs = omega (arith, (c .before .before .before .before .before .before .before .before .before .pre) .0 .sizes .short, (c .before .before .before .before .before .before .before .before .before .pre) .0 .sizes .even, (c .before .before .before .before .loop) .inv .cur .at ((c .before .before .before .loop-test) .taken) .0)
 
 next-of-requires : tie.Need-next-of-requires Inv-loop μ-loop
-next-of-requires c κs = omega (arith, (c .before .before .before .before .before .before .before .pre) .0 .sizes .room, (c .before .before .before .before .before .before .before .pre) .0 .sizes .even, (c .before .before .loop) .inv .cur ((c .before .loop-test) .taken) .0)
+next-of-requires c κs = omega (arith, (c .before .before .before .before .before .before .before .pre) .0 .sizes .room, (c .before .before .before .before .before .before .before .pre) .0 .sizes .even, (c .before .before .loop) .inv .cur .at ((c .before .loop-test) .taken) .0)
 
 loop-less : tie.Need-loop-less Inv-loop μ-loop
-loop-less c = pick-less ((c .before .before .before .before .before .before .before .before .pre) .0) ((c .before .before .loop-test) .taken) ((c .before .before .before .loop) .inv .cur ((c .before .before .loop-test) .taken) .0) ((c .next-of) .ensures)
+loop-less c = cursor-less (nexts-of ((c .before .before .before .before .before .before .before .before .pre) .0)) ((c .before .before .before .loop) .inv .cur) ((c .before .before .loop-test) .taken) ((c .next-of) .ensures) ((c .before .before .before .before .before .before .before .before .pre) .0 .sizes)
 
 loop-again : tie.Need-loop-again Inv-loop μ-loop
 loop-again c = ⊎-elim

@@ -10,9 +10,9 @@ use Rattle.components.proofs.scan.scan.Statement.{statement}
 use Rattle.components.proofs.scan.scan.Tie as tie
 use Rattle.components.specs.Walk.{left}
 use Rattle.meaning.specs.Codes.{opposite}
-use Rattle.components.proofs.Looking.{Scanning, scan-start, scan-less, scan-turn, scan-hit, scan-end}
+use Rattle.components.proofs.Looking.{Scanning, scan-start, scan-turn, scan-hit, scan-end}
+use Rattle.moves.proofs.Cursors.{left-of, cursor-less, other-code}
 use Rattle.moves.proofs.Places.{tables}
-use Rattle.moves.proofs.Visiting.{left-of, other-code}
 
 abbrev Inv-loop : tie.InvT-loop
 Inv-loop n words work source low₀ e₀ low e = Scanning n words work source low e
@@ -26,7 +26,7 @@ led c =
 
 code : (c : tie.After-code-at Inv-loop μ-loop) → (c .code-at) .result .0 < 2 * (c .before .before .before .before .before .before .before .before .args) .n
 code c =
-    other-code ((c .before .before .before .before .before .before .before .before .pre) .0) ((c .before .before .loop-test) .taken) ((c .before .before .before .loop) .inv .cur .cur ((c .before .before .loop-test) .taken) .0) ((c .before .other-end) .ensures) ((c .code-at) .ensures) .1
+    other-code ((c .before .before .before .before .before .before .before .before .pre) .0) ((c .before .before .before .loop) .inv .cur) ((c .before .before .loop-test) .taken) ((c .before .other-end) .ensures) ((c .code-at) .ensures) .1
 
 rank-of-requires : tie.Need-rank-of-requires Inv-loop μ-loop
 rank-of-requires c κs = ((c .before .before .pre) .1 .1 .0, tables ((c .before .before .pre) .0))
@@ -44,26 +44,26 @@ other-end-requires : tie.Need-other-end-requires Inv-loop μ-loop
 other-end-requires c κs = search needs
 
 code-at-requires : tie.Need-code-at-requires Inv-loop μ-loop
-code-at-requires c κs = other-code ((c .before .before .before .before .before .before .before .pre) .0) ((c .before .loop-test) .taken) ((c .before .before .loop) .inv .cur .cur ((c .before .loop-test) .taken) .0) ((c .other-end) .ensures) refl .0
+code-at-requires c κs = other-code ((c .before .before .before .before .before .before .before .pre) .0) ((c .before .before .loop) .inv .cur) ((c .before .loop-test) .taken) ((c .other-end) .ensures) refl .0
 
 rank-of-requires-2 : tie.Need-rank-of-requires-2 Inv-loop μ-loop
 rank-of-requires-2 c κs = (code (c), tables ((c .before .before .before .before .before .before .before .before .pre) .0))
 
 next-of-requires : tie.Need-next-of-requires Inv-loop μ-loop
-next-of-requires c κs = omega (arith, (c .before .before .before .before .before .before .before .before .before .pre) .0 .room, (c .before .before .before .before .before .before .before .before .before .pre) .0 .even, (c .before .before .before .before .loop) .inv .cur .cur ((c .before .before .before .loop-test) .taken) .0)
+next-of-requires c κs = omega (arith, (c .before .before .before .before .before .before .before .before .before .pre) .0 .room, (c .before .before .before .before .before .before .before .before .before .pre) .0 .even, (c .before .before .before .before .loop) .inv .cur .at ((c .before .before .before .loop-test) .taken) .0)
 
 returns : tie.Need-returns Inv-loop μ-loop
 returns c = (scan-hit ((c .before .before .before .before .before .before .before .before .before .before .before .pre) .0) ((c .before .before .before .before .before .before .before .before .before .before .before .pre) .1 .0) ((c .before .before .before .before .before .before .loop) .inv) ((c .before .before .before .before .before .loop-test) .taken) (led (c .before .before .before)) ((c .before .next-of) .ensures) (sym ((c .before .before .rank-of2) .ensures) ∙ (c .if1) .taken))
 
 loop-less : tie.Need-loop-less Inv-loop μ-loop
-loop-less c = scan-less ((c .before .before .before .before .before .before .before .before .before .before .before .before .pre) .0) ((c .before .before .before .before .before .before .before .before .before .before .before .before .pre) .1 .0) ((c .before .before .before .before .before .before .before .loop) .inv) ((c .before .before .before .before .before .before .loop-test) .taken) (led (c .before .before .before .before)) ((c .before .before .next-of) .ensures)
+loop-less c = cursor-less ((c .before .before .before .before .before .before .before .before .before .before .before .before .pre) .1 .0) ((c .before .before .before .before .before .before .before .loop) .inv .cur) ((c .before .before .before .before .before .before .loop-test) .taken) ((c .before .before .next-of) .ensures) ((c .before .before .before .before .before .before .before .before .before .before .before .before .pre) .0)
 
 loop-again : tie.Need-loop-again Inv-loop μ-loop
 loop-again c = scan-turn ((c .before .before .before .before .before .before .before .before .before .before .before .before .pre) .0) ((c .before .before .before .before .before .before .before .before .before .before .before .before .pre) .1 .0) ((c .before .before .before .before .before .before .before .loop) .inv) ((c .before .before .before .before .before .before .loop-test) .taken) (led (c .before .before .before .before)) ((c .before .before .next-of) .ensures)
     (omega arith) (omega arith) (inr ((c .before .before .before .rank-of2) .ensures)) (omega (arith, (c .before .before .before .rank-of2) .ensures))
 
 loop-less-2 : tie.Need-loop-less-2 Inv-loop μ-loop
-loop-less-2 c = scan-less ((c .before .before .before .before .before .before .before .before .before .before .before .before .pre) .0) ((c .before .before .before .before .before .before .before .before .before .before .before .before .pre) .1 .0) ((c .before .before .before .before .before .before .before .loop) .inv) ((c .before .before .before .before .before .before .loop-test) .taken) (led (c .before .before .before .before)) ((c .before .before .next-of) .ensures)
+loop-less-2 c = cursor-less ((c .before .before .before .before .before .before .before .before .before .before .before .before .pre) .1 .0) ((c .before .before .before .before .before .before .before .loop) .inv .cur) ((c .before .before .before .before .before .before .loop-test) .taken) ((c .before .before .next-of) .ensures) ((c .before .before .before .before .before .before .before .before .before .before .before .before .pre) .0)
 
 loop-again-2 : tie.Need-loop-again-2 Inv-loop μ-loop
 loop-again-2 c = scan-turn ((c .before .before .before .before .before .before .before .before .before .before .before .before .pre) .0) ((c .before .before .before .before .before .before .before .before .before .before .before .before .pre) .1 .0) ((c .before .before .before .before .before .before .before .loop) .inv) ((c .before .before .before .before .before .before .loop-test) .taken) (led (c .before .before .before .before)) ((c .before .before .next-of) .ensures)

@@ -7,8 +7,9 @@ use Rattle.components.proofs.walk.components.Statement.{statement}
 use Rattle.components.proofs.walk.components.Tie as tie
 use Rattle.components.specs.Walk.{left}
 use Rattle.moves.specs.Layout.{mark}
-use Rattle.components.proofs.Answers.{begin, nexts-of}
+use Rattle.components.proofs.Answers.{begin}
 use Rattle.components.proofs.Sweeping.{side-refl, sizes-side, nexts-side, Sweeping, sweep-skip, sweep-turn, sweep-done}
+use Rattle.moves.proofs.Cursors.{nexts-of}
 
 abbrev Inv-loop : tie.InvT-loop
 Inv-loop n words work₀ x₀ work x = Sweeping n words work₀ work x

@@ -8,8 +8,9 @@ use lib.ListN.{getD}
 use Rattle.meaning.specs.Codes.{opposite}
 use Rattle.meaning.proofs.CodeLaws.{opposite-opposite, opposite-below}
 use Rattle.moves.specs.Layout.{head}
+use Rattle.moves.proofs.Cursors.{left-of, other-code}
 use Rattle.moves.proofs.Places.{tables, tables-apart}
-use Rattle.moves.proofs.Visiting.{left-of, visit-start, visit-less, other-code}
+use Rattle.moves.proofs.Visiting.{visit-start, visit-less}
 use Rattle.moves.proofs.Pressing.{Pulling, pull-turn, pull-done, pull-stop}
 use Rattle.moves.proofs.attempt.pull.Statement.{statement}
 use Rattle.moves.proofs.attempt.pull.Tie as tie
@@ -30,7 +31,7 @@ led c =
 
 inside : (c : tie.After-code-at Inv-loop μ-loop) → (c .code-at) .result .0 < 2 * (c .before .before .before .before .before .before .before .before .before .args) .n
 inside c =
-    other-code ((c .before .before .before .before .before .before .before .before .before .pre) .0 .sizes) ((c .before .before .loop-test) .taken) ((c .before .before .before .loop) .inv .visit .cur ((c .before .before .loop-test) .taken) .0) ((c .before .other-end) .ensures) ((c .code-at) .ensures) .1
+    other-code ((c .before .before .before .before .before .before .before .before .before .pre) .0 .sizes) ((c .before .before .before .loop) .inv .visit .cur) ((c .before .before .loop-test) .taken) ((c .before .other-end) .ensures) ((c .code-at) .ensures) .1
 
 opposite-requires : tie.Need-opposite-requires Inv-loop μ-loop
 opposite-requires c κs = search needs
@@ -52,7 +53,7 @@ other-end-requires : tie.Need-other-end-requires Inv-loop μ-loop
 other-end-requires c κs = search needs
 
 code-at-requires : tie.Need-code-at-requires Inv-loop μ-loop
-code-at-requires c κs = other-code ((c .before .before .before .before .before .before .before .before .pre) .0 .sizes) ((c .before .loop-test) .taken) ((c .before .before .loop) .inv .visit .cur ((c .before .loop-test) .taken) .0) ((c .other-end) .ensures) refl .0
+code-at-requires c κs = other-code ((c .before .before .before .before .before .before .before .before .pre) .0 .sizes) ((c .before .before .loop) .inv .visit .cur) ((c .before .loop-test) .taken) ((c .other-end) .ensures) refl .0
 
 meet-requires : tie.Need-meet-requires Inv-loop μ-loop
 meet-requires c κs = (inside (c .before), tables-apart ((c .before .before .before .before .before .before .before .before .before .before .pre) .0 .sizes) ((c .before .before .before .before .loop) .inv .visit .apart), (c .before .before .before .before .loop) .inv .visit .onto .listed)
@@ -71,7 +72,7 @@ returns c = let m = rw ((c .enum-told) .given .1) at ((c .before .before .before
     rw ((c .enum-told) .given .1) (rw (back (c .before .before .before .before .before .before .before .before .before .before .before .before)) at (pull-stop ((c .before .before .before .before .before .before .before .before .before .before .before .before .before .before .before .pre) .0 .sizes) ((c .before .before .before .before .before .before .before .before .before .loop) .inv) ((c .before .before .before .before .before .before .before .before .loop-test) .taken) (led (c .before .before .before .before .before .before)) m))
 
 next-of-requires : tie.Need-next-of-requires Inv-loop μ-loop
-next-of-requires c κs = omega (arith, (c .before .before .before .before .before .before .before .before .before .before .before .before .before .before .before .before .before .pre) .0 .sizes .room, (c .before .before .before .before .before .before .before .before .before .before .before .before .before .before .before .before .before .pre) .0 .sizes .even, (c .before .before .before .before .before .before .meet) .kept .1 .0, (c .before .before .before .before .before .before .before .before .before .before .before .loop) .inv .visit .apart .long, (c .before .before .before .before .before .before .before .before .before .before .before .loop) .inv .visit .cur ((c .before .before .before .before .before .before .before .before .before .before .loop-test) .taken) .0)
+next-of-requires c κs = omega (arith, (c .before .before .before .before .before .before .before .before .before .before .before .before .before .before .before .before .before .pre) .0 .sizes .room, (c .before .before .before .before .before .before .before .before .before .before .before .before .before .before .before .before .before .pre) .0 .sizes .even, (c .before .before .before .before .before .before .meet) .kept .1 .0, (c .before .before .before .before .before .before .before .before .before .before .before .loop) .inv .visit .apart .long, (c .before .before .before .before .before .before .before .before .before .before .before .loop) .inv .visit .cur .at ((c .before .before .before .before .before .before .before .before .before .before .loop-test) .taken) .0)
 
 loop-less : tie.Need-loop-less Inv-loop μ-loop
 loop-less c = visit-less ((c .before .before .before .before .before .before .before .before .before .before .before .before .before .before .before .before .before .before .pre) .0) (omega arith) ((c .before .before .before .before .before .before .before .before .before .before .before .before .loop) .inv .visit) ((c .before .before .before .before .before .before .before .before .before .before .before .loop-test) .taken) (led (c .before .before .before .before .before .before .before .before .before)) (rw ((c .before .before .before .met) .given .1) at ((c .before .before .before .before .before .before .before .meet) .ensures) .0) ((c .next-of) .ensures)

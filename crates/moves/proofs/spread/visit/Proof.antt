@@ -8,8 +8,9 @@ use lib.ListN.{getD}
 use Rattle.meaning.specs.Codes.{opposite}
 use Rattle.meaning.proofs.CodeLaws.{opposite-opposite, opposite-below}
 use Rattle.moves.specs.Layout.{head}
+use Rattle.moves.proofs.Cursors.{left-of, other-code}
 use Rattle.moves.proofs.Places.{tables, tables-apart}
-use Rattle.moves.proofs.Visiting.{Visiting, left-of, visit-start, visit-turn, visit-less, visit-done, other-code}
+use Rattle.moves.proofs.Visiting.{Visiting, visit-start, visit-turn, visit-less, visit-done}
 use Rattle.moves.proofs.spread.visit.Statement.{statement}
 use Rattle.moves.proofs.spread.visit.Tie as tie
 
@@ -44,13 +45,13 @@ other-end-requires : tie.Need-other-end-requires Inv-loop μ-loop
 other-end-requires c κs = search needs
 
 code-at-requires : tie.Need-code-at-requires Inv-loop μ-loop
-code-at-requires c κs = other-code ((c .before .before .before .before .before .before .before .before .pre) .0 .sizes) ((c .before .loop-test) .taken) ((c .before .before .loop) .inv .cur ((c .before .loop-test) .taken) .0) ((c .other-end) .ensures) refl .0
+code-at-requires c κs = other-code ((c .before .before .before .before .before .before .before .before .pre) .0 .sizes) ((c .before .before .loop) .inv .cur) ((c .before .loop-test) .taken) ((c .other-end) .ensures) refl .0
 
 touch-requires : tie.Need-touch-requires Inv-loop μ-loop
-touch-requires c κs = (other-code ((c .before .before .before .before .before .before .before .before .before .before .pre) .0 .sizes) ((c .before .before .before .loop-test) .taken) ((c .before .before .before .before .loop) .inv .cur ((c .before .before .before .loop-test) .taken) .0) ((c .before .before .other-end) .ensures) ((c .before .code-at) .ensures) .1, tables-apart ((c .before .before .before .before .before .before .before .before .before .before .pre) .0 .sizes) ((c .before .before .before .before .loop) .inv .apart), (c .before .before .before .before .loop) .inv .onto .listed)
+touch-requires c κs = (other-code ((c .before .before .before .before .before .before .before .before .before .before .pre) .0 .sizes) ((c .before .before .before .before .loop) .inv .cur) ((c .before .before .before .loop-test) .taken) ((c .before .before .other-end) .ensures) ((c .before .code-at) .ensures) .1, tables-apart ((c .before .before .before .before .before .before .before .before .before .before .pre) .0 .sizes) ((c .before .before .before .before .loop) .inv .apart), (c .before .before .before .before .loop) .inv .onto .listed)
 
 next-of-requires : tie.Need-next-of-requires Inv-loop μ-loop
-next-of-requires c κs = omega (arith, (c .before .before .before .before .before .before .before .before .before .before .before .before .before .before .pre) .0 .sizes .room, (c .before .before .before .before .before .before .before .before .before .before .before .before .before .before .pre) .0 .sizes .even, (c .before .before .before .touch) .kept .1 .0, (c .before .before .before .before .before .before .before .before .loop) .inv .apart .long, (c .before .before .before .before .before .before .before .before .loop) .inv .cur ((c .before .before .before .before .before .before .before .loop-test) .taken) .0)
+next-of-requires c κs = omega (arith, (c .before .before .before .before .before .before .before .before .before .before .before .before .before .before .pre) .0 .sizes .room, (c .before .before .before .before .before .before .before .before .before .before .before .before .before .before .pre) .0 .sizes .even, (c .before .before .before .touch) .kept .1 .0, (c .before .before .before .before .before .before .before .before .loop) .inv .apart .long, (c .before .before .before .before .before .before .before .before .loop) .inv .cur .at ((c .before .before .before .before .before .before .before .loop-test) .taken) .0)
 
 loop-less : tie.Need-loop-less Inv-loop μ-loop
 loop-less c = visit-less ((c .before .before .before .before .before .before .before .before .before .before .before .before .before .before .before .pre) .0) ((c .before .before .before .before .before .before .before .before .before .before .before .before .before .before .before .pre) .1 .1) ((c .before .before .before .before .before .before .before .before .before .loop) .inv) ((c .before .before .before .before .before .before .before .before .loop-test) .taken) (led (c .before .before .before .before .before .before)) ((c .before .before .before .before .touch) .ensures) ((c .next-of) .ensures)
