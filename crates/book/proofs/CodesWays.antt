@@ -1,27 +1,26 @@
 -- The loops of the readers of codes, and what each way through `read_codes` shows. part is the bytes lent, which begin at the place `from` of the book.
 use mathlib.Core.Path.{_≡_, refl, sym, ap, _∙_}
-use mathlib.Core.List.{List, _∷_, _++_, append-assoc}
+use mathlib.Core.List.{List, [], _∷_, _++_}
 use Prim.Native.Nat.{ℕ, suc, _+_, _-_, _*_, _≤_, _<_}
 use native.Mathlib.Omega.{arith}
-use native.Mathlib.Numerals.{add-one}
 use native.Mathlib.Nat.{add-zero, add-assoc, sub-zero}
 use borrow.Author.Tests.{lt-ltb, le-ltb}
-use lib.ListN.{length, take, drop, set, length-set, length-drop, take-append-drop}
-use lib.Seq.{drop-drop, take-suc-set, drop-set-lt}
+use lib.ListN.{length, drop, set, length-set, length-drop}
+use lib.Seq.{drop-drop}
 use Rattle.meaning.specs.declared.refusal.Refusal.{Refusal}
 use Rattle.meaning.specs.declared.refusal.Refusal.the-variants.{AnswerTooShort, BytesLeft}
 use Rattle.meaning.specs.Sizes.{over}
 use Rattle.meaning.specs.Refusals.{numberOf, placeOf, none, Check, firstOf}
-use Rattle.meaning.proofs.RefusalLaws.{due-ahead}
+use Rattle.meaning.proofs.AreaLaws.{overAt, over-at-none, over-at-one, over-at-append}
+use Rattle.meaning.proofs.RefusalLaws.{never, due-ahead}
 use Rattle.book.specs.declared.answer.Read.{Read}
 use Rattle.book.specs.declared.number.Number.{Number}
 use Rattle.book.specs.declared.codes.Checked.{Checked}
 use Rattle.book.specs.Number.{mayFollow, numberSize, afterNumber}
 use Rattle.book.specs.Checks.{numbersIn, limitChecks, codesChecks}
 use Rattle.book.specs.Inner.{NumberBelow, CodesSay, GivesCodes}
-use Rattle.book.proofs.Refusing.{never, behind, both-none}
+use Rattle.book.proofs.Refusing.{behind, both-none}
 use Rattle.book.proofs.NumberLaws.{size-within, limit-none}
-use Rattle.book.proofs.NumberWays.{drop-at}
 
 -- the bytes after the number at a place are those from its end on
 pub after-at : (part : List ℕ) (at : ℕ) → afterNumber (drop at part) ≡ drop (at + numberSize (drop at part)) part
@@ -86,18 +85,12 @@ pub record Writing (part : List ℕ) (from count limit : ℕ) (before : List ℕ
   pub inside : at ≤ length part
   pub long : length words ≡ length before
   pub good : firstOf (codesChecks (count - k) limit (from + at) (drop at part)) ≡ none
-  pub rest : take k words ++ over (numbersIn (count - k) (drop at part)) (drop k words) ≡ over (numbersIn count part) before
+  pub rest : overAt k (numbersIn (count - k) (drop at part)) words ≡ over (numbersIn count part) before
 
 -- nothing is written yet
 pub write-start : (part : List ℕ) (from count limit : ℕ) (before : List ℕ) → firstOf (codesChecks count limit from part) ≡ none →
     Writing part from count limit before 0 0 before
 write-start part from count limit before e = record { inside = omega arith; long = refl; good = rw (add-zero, sub-zero) e; rest = rw sub-zero }
-
--- a word that is written in front of the others
-over-cons : (words xs : List ℕ) (k v : ℕ) → k < length words →
-    take k words ++ over (v ∷ xs) (drop k words) ≡ take (k + 1) (set words k v) ++ over xs (drop (k + 1) (set words k v))
-over-cons words xs k v h =
-    rw (drop-at words k h, drop-set-lt (k + 1) words k v (omega arith), add-one, take-suc-set words k v h, append-assoc)
 
 module _ (part : List ℕ) (from count limit : ℕ) (before : List ℕ) (at k : ℕ) (words : List ℕ) (w : Writing part from count limit before at k words)
     (more : k < count) where
@@ -127,7 +120,8 @@ module _ (part : List ℕ) (from count limit : ℕ) (before : List ℕ) (at k : 
         long = length-set words k value ∙ long;
         good = both next (said .2) .1;
         rest =
-            sym (over-cons words (numbersIn (count - (k + 1)) (drop next part)) k value (omega arith))
+            ap (overAt (k + 1) (numbersIn (count - (k + 1)) (drop next part))) (over-at-one k value words (omega arith))
+            ∙ over-at-append k (value ∷ []) (numbersIn (count - (k + 1)) (drop next part)) words (omega arith)
             ∙ rw (said .1, said .2, ← after-at part at) (rw l at (w .rest));
       }
 
@@ -136,17 +130,20 @@ pub write-done : (part : List ℕ) (from count limit : ℕ) (before : List ℕ) 
     count ≤ k → words ≡ over (numbersIn count part) before
 write-done part from count limit before at k words w h =
     let z : count - k ≡ 0 = omega arith in
-    sym (take-append-drop k words) ∙ rw z at (w .rest)
+    sym (over-at-none k words) ∙ rw z at (w .rest)
 
--- read_codes: the area is too short, a code or what follows the last is refused, or the codes are written
+-- read_codes: its ways out
 module _ (part words : List ℕ) (from n m : ℕ) where
+  -- the area is too short
   pub room-short : length words < 2 * m → GivesCodes n m part from words (Read.Refused (AnswerTooShort 0)) words
   room-short h = record { refuses = rw (lt-ltb (length words) (2 * m) h); says = refl }
 
   module _ (room : 2 * m ≤ length words) where
+    -- a code is refused, or what follows the last
     pub codes-refused : (r : Refusal) → CodesSay (2 * m) (2 * n) part from (Checked.Refused r) → GivesCodes n m part from words (Read.Refused r) words
     codes-refused r e = record { refuses = rw (le-ltb (length words) (2 * m) room) (sym e); says = refl }
 
+    -- the codes are written
     pub codes-read : (words′ : List ℕ) → CodesSay (2 * m) (2 * n) part from Checked.Good → words′ ≡ over (numbersIn (2 * m) part) words →
         GivesCodes n m part from words (Read.Book n m) words′
     codes-read words′ e w = record { refuses = rw (le-ltb (length words) (2 * m) room) (sym e); says = (refl, refl, w) }

@@ -10,10 +10,11 @@ use borrow.Author.Tests.{leb-true, leb-false, ltb-false, lt-ltb, le-ltb, le-leb,
 use lib.ListN.{length, getD, drop}
 use Rattle.meaning.specs.Refusals.{none, check, firstOf}
 use Rattle.meaning.proofs.General.{below-or-from}
+use Rattle.meaning.proofs.RefusalLaws.{never}
 use Rattle.book.specs.Number.{goesOn, formChecks, valueUpTo, sizeUpTo, numberChecks, numberValue}
 use Rattle.book.specs.Checks.{limitChecks}
 use Rattle.book.specs.Saved.{bytesUpTo}
-use Rattle.book.proofs.Refusing.{never, both-none, check-none}
+use Rattle.book.proofs.Refusing.{both-none, check-none}
 
 -- what holds of both arms of a choice holds of it
 pub either : {A : Type 0} (P : A → Type 0) (t : Bool) (a b : A) → P a → P b → P (cond t a b)

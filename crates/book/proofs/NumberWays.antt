@@ -1,25 +1,20 @@
 -- What each way through the readers of a number shows. part is the bytes lent, which begin at the place `from` of the book.
 use mathlib.Core.Path.{_≡_, refl, ap, _∙_}
-use mathlib.Core.List.{List, _∷_}
+use mathlib.Core.List.{List}
 use Prim.Native.Nat.{ℕ, _+_, _-_, _*_, _≤_, _<_}
 use native.Mathlib.Omega.{arith}
-use native.Mathlib.Numerals.{add-one}
 use borrow.Author.Tests.{lt-ltb, le-ltb, le-leb, lt-leb}
 use lib.ListN.{length, getD, drop, drop-of-length-le}
-use lib.Seq.{drop-cons}
 use Rattle.meaning.specs.declared.refusal.Refusal.{Refusal}
 use Rattle.meaning.specs.declared.refusal.Refusal.the-variants.{BookEnds, NumberTooLong, NumberPadded}
 use Rattle.meaning.specs.Sizes.{over}
 use Rattle.meaning.specs.Refusals.{numberOf, placeOf, refused}
+use Rattle.meaning.proofs.General.{drop-next}
 use Rattle.meaning.proofs.RefusalLaws.{due-ahead}
 use Rattle.book.specs.declared.number.Number.{Number}
 use Rattle.book.specs.Number.{numberChecks}
 use Rattle.book.specs.Inner.{NumberAt, NumberBelow}
 use Rattle.book.proofs.Refusing.{behind}
-
--- the bytes from a place on are the byte there and those from the next place on
-pub drop-at : (l : List ℕ) (j : ℕ) → j < length l → drop j l ≡ getD l j 0 ∷ drop (j + 1) l
-drop-at l j h = rw (add-one, drop-cons l j 0)
 
 -- number_at: the book ends before the number
 pub ends-before : (part : List ℕ) (from at : ℕ) → length part ≤ at → NumberAt part from at (Number.Refused (BookEnds (from + at)))
@@ -28,28 +23,28 @@ ends-before part from at h = rw (drop-of-length-le part h)
 module _ (part : List ℕ) (from at low : ℕ) (inside : at < length part) (first : low ≡ getD part at 0) where
   -- one byte
   pub one-byte : low < 128 → NumberAt part from at (Number.Value low (at + 1))
-  one-byte h = rw (drop-at part at inside, ← first, lt-leb 128 low h, le-ltb low 0 (omega arith)) (refl, refl, refl)
+  one-byte h = rw (drop-next part at inside, ← first, lt-leb 128 low h, le-ltb low 0 (omega arith)) (refl, refl, refl)
 
   -- the book ends after the first of two
   pub ends-inside : 128 ≤ low → length part ≤ at + 1 → NumberAt part from at (Number.Refused (BookEnds (from + (at + 1))))
-  ends-inside h e = rw (drop-at part at inside, ← first, le-leb 128 low h, drop-of-length-le part e) (ap (refused 7) (omega arith))
+  ends-inside h e = rw (drop-next part at inside, ← first, le-leb 128 low h, drop-of-length-le part e) (ap (refused 7) (omega arith))
 
   module _ (high : ℕ) (more : 128 ≤ low) (inside′ : at + 1 < length part) (second : high ≡ getD part (at + 1) 0) where
     -- the second byte has its top bit set
     pub too-long : 128 ≤ high → NumberAt part from at (Number.Refused (NumberTooLong (from + (at + 1))))
     too-long h =
-        rw (drop-at part at inside, ← first, le-leb 128 low more, drop-at part (at + 1) inside′, ← second, le-leb 128 high h) (ap (refused 8) (omega arith))
+        rw (drop-next part at inside, ← first, le-leb 128 low more, drop-next part (at + 1) inside′, ← second, le-leb 128 high h) (ap (refused 8) (omega arith))
 
     -- the second byte is 0
     pub padded : high < 1 → NumberAt part from at (Number.Refused (NumberPadded (from + (at + 1))))
     padded h =
-        rw (drop-at part at inside, ← first, le-leb 128 low more, drop-at part (at + 1) inside′, ← second, lt-leb 128 high (omega arith), lt-ltb high 1 h)
+        rw (drop-next part at inside, ← first, le-leb 128 low more, drop-next part (at + 1) inside′, ← second, lt-leb 128 high (omega arith), lt-ltb high 1 h)
         (ap (refused 9) (omega arith))
 
     -- two bytes of a good form
     pub two-bytes : high < 128 → 1 ≤ high → NumberAt part from at (Number.Value (low - 128 + 128 * high) (at + 1 + 1))
     two-bytes h p =
-        rw (drop-at part at inside, ← first, le-leb 128 low more, drop-at part (at + 1) inside′, ← second, lt-leb 128 high h, le-ltb high 1 p)
+        rw (drop-next part at inside, ← first, le-leb 128 low more, drop-next part (at + 1) inside′, ← second, lt-leb 128 high h, le-ltb high 1 p)
         (refl, refl, omega arith)
 
 -- number_below: a number whose form is refused is; one that reaches the limit is refused by `over`; any other is good

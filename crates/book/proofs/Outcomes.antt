@@ -8,12 +8,11 @@ use lib.ListN.{length}
 use Rattle.meaning.specs.declared.refusal.Refusal.{Refusal}
 use Rattle.meaning.specs.Sizes.{over}
 use Rattle.meaning.specs.Refusals.{numberOf, placeOf, Due, none, refused, asDue, Check, check, firstOf}
-use Rattle.meaning.proofs.RefusalLaws.{named, named-same, due-named}
+use Rattle.meaning.proofs.RefusalLaws.{never, named, named-same, due-named}
 use Rattle.book.specs.declared.answer.Read.{Read}
 use Rattle.book.specs.Number.{mayFollow, goesOn, formChecks, numberChecks, numberSize, afterNumber}
 use Rattle.book.specs.Checks.{choicesIn, rulesIn, codeBytes, codesPlace, codesIn, limitChecks, codesChecks, choicesChecks, rulesChecks, bookChecks, bookDue}
 use Rattle.book.specs.Promise.{Gives, Reads}
-use Rattle.book.proofs.Refusing.{never}
 use Rattle.book.proofs.NumberLaws.{either}
 
 module _ (due : Due) (n m : ℕ) (ws words : List ℕ) where

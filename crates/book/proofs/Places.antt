@@ -9,9 +9,9 @@ use lib.Dec.{leb, ltb}
 use lib.ListN.{length, length-drop}
 use Rattle.meaning.specs.Sizes.{maxChoices, maxRules}
 use Rattle.meaning.specs.Refusals.{refused, Check, check, firstOf, shortPlace}
+use Rattle.meaning.proofs.RefusalLaws.{never}
 use Rattle.book.specs.Number.{mayFollow, goesOn, formChecks, numberChecks, numberValue, numberSize, afterNumber}
 use Rattle.book.specs.Checks.{choicesIn, rulesIn, codeBytes, codesPlace, limitChecks, codesChecks, choicesChecks, rulesChecks, restChecks, bookDue}
-use Rattle.book.proofs.Refusing.{never}
 use Rattle.book.proofs.NumberLaws.{size-within}
 
 -- the first that is due of two lists of checks is due of the first list, or of the second

@@ -1,15 +1,10 @@
 -- Checks in order: the laws of the meaning, in the form that they are used in here.
-use mathlib.Core.Path.{_≡_, refl, sym}
+use mathlib.Core.Path.{_≡_, refl}
 use mathlib.Core.Bool.{Bool, true, false}
 use mathlib.Core.List.{List, [], _∷_, _++_}
 use Prim.Native.Nat.{ℕ}
-use native.Mathlib.Omega.{arith}
-use Rattle.meaning.specs.Refusals.{none, refused, Check, check, firstOf}
-use Rattle.meaning.proofs.RefusalLaws.{none-applies, applies-none, due-behind}
-
--- nothing due is no refusal
-pub never : (number place : ℕ) → none ≡ refused number place → ⊥
-never number place e = let z : _≡_ {A = ℕ} 0 1 = cc in omega arith
+use Rattle.meaning.specs.Refusals.{none, Check, check, firstOf}
+use Rattle.meaning.proofs.RefusalLaws.{none-applies, applies-none, split-none, due-behind}
 
 -- what follows checks of which none applies decides
 pub behind : (cs ds : List Check) → firstOf cs ≡ none → firstOf (cs ++ ds) ≡ firstOf ds
@@ -17,9 +12,7 @@ behind cs ds e = due-behind cs ds (none-applies cs e)
 
 -- where nothing is due of two lists of checks, nothing is of either
 pub both-none : (cs ds : List Check) → firstOf (cs ++ ds) ≡ none → (firstOf cs ≡ none) × (firstOf ds ≡ none)
-both-none [] ds e = (refl, e)
-both-none (check true number place ∷ cs) ds e = absurd (never number place (sym e))
-both-none (check false number place ∷ cs) ds e = both-none cs ds e
+both-none cs ds e = let h = split-none cs ds (none-applies (cs ++ ds) e) in (applies-none cs (h .0), applies-none ds (h .1))
 
 -- where nothing is due, the first check does not apply, and nothing is due of the others
 pub check-none : (t : Bool) (number place : ℕ) (cs : List Check) → firstOf (check t number place ∷ cs) ≡ none → (t ≡ false) × (firstOf cs ≡ none)

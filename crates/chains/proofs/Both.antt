@@ -4,13 +4,13 @@ use mathlib.Core.List.{List, _++_}
 use Prim.Native.Nat.{ℕ, _+_, _*_, _≤_, _<_}
 use native.Mathlib.Omega.{arith}
 use lib.ListN.{length}
-use Rattle.chains.specs.Traces.{overAt, Traced}
+use Rattle.chains.specs.Traces.{Traced}
 use Rattle.meaning.specs.Chains.{LowestClash}
 use Rattle.meaning.specs.Codes.{late, early, opposite}
 use Rattle.meaning.specs.Promises.{BothChains}
 use Rattle.meaning.specs.Sizes.{chainsNeed, over}
 use Rattle.moves.specs.Lists.{Ready}
-use Rattle.chains.proofs.Writing.{write-length, write-both}
+use Rattle.meaning.proofs.AreaLaws.{over-at-length, over-at-append}
 use Rattle.meaning.proofs.ChainLength.{shortest-length}
 use Rattle.meaning.proofs.CodeLaws.{opposite-late, opposite-early}
 
@@ -19,7 +19,7 @@ pub second-room : {n : ℕ} {ws W : List ℕ} {c : ℕ} {area area′ : List ℕ
     chainsNeed n ≤ length area → r + 2 * n ≤ length area′
 second-room {n} {ws} {W} {c} {area} rd lc t fits =
     let short : length (t .chain) < 2 * n = shortest-length ws (opposite c) n (rd .sizes .codes) c (t .chain) lc (t .shortest) in
-    omega (arith, t .counted, ap length (t .written) ∙ write-length 0 (t .chain) area (omega arith))
+    omega (arith, t .counted, ap length (t .written) ∙ over-at-length 0 (t .chain) area (omega arith))
 
 -- the chains of a choice that clashes, from late to early and then from early to late, are what Clash promises
 pub both-chains : {ws : List ℕ} {v : ℕ} {area area₁ area₂ : List ℕ} {i j : ℕ} → LowestClash ws v → Traced ws (late v) 0 area area₁ i →
@@ -36,5 +36,5 @@ both-chains {ws} {v} {area} {area₁} {area₂} {i} {j} low t b = (
     backLength = b .counted;
     words = refl;
   },
-  b .written ∙ ap (λ (k : ℕ). overAt k (b .chain) area₁) (t .counted) ∙ ap (overAt (length (t .chain)) (b .chain)) (t .written) ∙ write-both (t .chain) (b .chain) area,
+  b .written ∙ (let e : i ≡ 0 + length (t .chain) = omega (arith, t .counted) in rw (t .written, e) (over-at-append 0 (t .chain) (b .chain) area (omega arith))),
 )

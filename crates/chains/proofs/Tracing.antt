@@ -5,12 +5,12 @@ use mathlib.Core.List.{List, [], _∷_, _++_, append-assoc, append-nil}
 use Prim.Native.Nat.{ℕ, _+_, _-_, _*_, _≤_, _<_}
 use native.Mathlib.Omega.{arith}
 use lib.ListN.{length, set, length-append}
-use Rattle.chains.specs.Traces.{Away, LowestTo, overAt, Traced}
+use Rattle.chains.specs.Traces.{Away, LowestTo, Traced}
 use Rattle.meaning.specs.Chains.{Step}
 use Rattle.meaning.specs.Codes.{opposite}
 use Rattle.moves.specs.Layout.{mark, Sizes}
 use Rattle.chains.proofs.Distances.{dist, distance, arrived}
-use Rattle.chains.proofs.Writing.{write-none, write-length, write-more}
+use Rattle.meaning.proofs.AreaLaws.{overAt, over-at-none, over-at-length, over-at-one, over-at-append}
 use Rattle.meaning.proofs.General.{same?}
 use Rattle.meaning.proofs.ShortestLaws.{step-unique, Nearing, nearing-shortest}
 use Rattle.moves.proofs.Steps.{step-to}
@@ -37,14 +37,14 @@ trace-start ws W at area lc q =
       left = omega arith;
       chain = [];
       counted = refl;
-      written = sym (write-none at area);
+      written = sym (over-at-none at area);
       completed = λ rest h. h;
     }
 
 -- the area keeps its length
 pub trace-long : {n : ℕ} {ws W : List ℕ} {c at len : ℕ} {area₀ area : List ℕ} {a i : ℕ} →
     Tracing n ws W c at len area₀ area a i → at + len ≤ length area₀ → length area ≡ length area₀
-trace-long {at = at} {area₀ = area₀} t fits = ap length (t .written) ∙ write-length at (t .chain) area₀ (omega (arith, t .counted, t .low))
+trace-long {at = at} {area₀ = area₀} t fits = ap length (t .written) ∙ over-at-length at (t .chain) area₀ (omega (arith, t .counted, t .low))
 
 module _ {n : ℕ} {ws : List ℕ} {c : ℕ} {W : List ℕ} (s : Sizes n ws W) (lc : c < 2 * n) (aw : Away n ws c W) where
   -- the lowest rule that leads nearer, and a nearing rest
@@ -73,7 +73,9 @@ module _ {n : ℕ} {ws : List ℕ} {c : ℕ} {W : List ℕ} (s : Sizes n ws W) (
         left = omega (arith, subst (λ (x : ℕ). mark n W (opposite x) ≡ d) same (low .near));
         chain = t .chain ++ (k ∷ []);
         counted = length-append (t .chain) (k ∷ []) ∙ omega (arith, t .counted);
-        written = ap (λ (x : List ℕ). set x (at + i) k) (t .written) ∙ write-more at (t .chain) area₀ i k (t .counted) (omega arith);
+        written =
+            over-at-one (at + i) k area (omega (arith, trace-long t fits))
+            ∙ rw (t .written, sym (t .counted)) (over-at-append at (t .chain) (k ∷ []) area₀ (omega arith));
         completed = λ rest h.
             subst (λ (x : List ℕ). Near n ws W c c x) (sym (append-assoc (t .chain) (k ∷ []) rest))
             (t .completed (k ∷ rest) (onward (omega (arith, t .left)) (omega arith) (omega arith) low st rest h));

@@ -1,11 +1,12 @@
 -- What the marks tell of a chain to the opposite of c, and how a chain is written.
 use mathlib.Core.Path.{_≡_}
-use mathlib.Core.List.{List, _++_}
+use mathlib.Core.List.{List}
 use Prim.Native.Nat.{ℕ, _+_, _*_, _≤_, _<_}
-use lib.ListN.{length, getD, take, drop}
+use lib.ListN.{length, getD}
 use Rattle.meaning.specs.Chains.{Step, Chain, Shortest}
 use Rattle.meaning.specs.Codes.{opposite}
 use Rattle.moves.specs.Layout.{mark, Apart}
+use Rattle.meaning.proofs.AreaLaws.{overAt}
 
 -- no code of the n choices has a mark
 abbrev pub Unmarked : ℕ → List ℕ → Type 0
@@ -27,10 +28,6 @@ pub record LowestTo (n : ℕ) (ws W : List ℕ) (a d k : ℕ) : Type 0 where
   pub step : Step ws a k next
   pub near : mark n W (opposite next) ≡ d
   pub lowest : (j b : ℕ) → j < k → Step ws a j b → mark n W (opposite b) ≡ d → ⊥
-
--- an area with xs written from the place `at` on: the rest stays
-abbrev pub overAt : ℕ → List ℕ → List ℕ → List ℕ
-overAt at xs area = take at area ++ xs ++ drop (at + length xs) area
 
 -- the chain that is named, from c to its opposite, is written from the place `at` on, and r is its length
 pub record Traced (ws : List ℕ) (c at : ℕ) (area area′ : List ℕ) (r : ℕ) : Type 0 where

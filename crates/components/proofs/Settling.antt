@@ -10,8 +10,9 @@ use Rattle.components.specs.Walk.{In, Past, Dfs}
 use Rattle.meaning.specs.Chains.{Step, Chain, Reach, Tied}
 use Rattle.meaning.specs.Codes.{opposite}
 use Rattle.components.proofs.Walking.{unsettled}
-use Rattle.components.proofs.Ways.{join, once, Words, step-lt, reach-lt, find?, count-mono}
-use Rattle.meaning.proofs.General.{same?, below-or-from}
+use Rattle.components.proofs.Ways.{join, once, Words, step-lt, reach-lt}
+use Rattle.meaning.proofs.General.{same?, below-or-from, find?}
+use Rattle.moves.proofs.Counts.{count-mono}
 
 -- ---- the last code of the path is done, and reaches nothing below: it and what is above it are a component
 module _ {N : ℕ} {ws : List ℕ} {r s d cu : ℕ → ℕ} {t m : ℕ} (h : Dfs N ws r s d cu t (m + 1)) (ok : Words N ws)

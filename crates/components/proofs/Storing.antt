@@ -1,6 +1,6 @@
 -- What the stores of `note` and `push` leave, and that a mark alone differs where a mark is stored.
 use Prim.Native.Nat.{ℕ, _+_, _*_, _<_}
-use mathlib.Core.Path.{_≡_, refl, sym, ap, _∙_, subst}
+use mathlib.Core.Path.{_≡_, refl, _∙_, subst}
 use mathlib.Core.Logic.{_≢_}
 use mathlib.Core.List.{List}
 use native.Mathlib.Omega.{arith}
@@ -9,11 +9,7 @@ use lib.Seq.{getD-set-same, getD-set-other}
 use Rattle.components.specs.Walk.{cursorAt, cursor, Stacked, Beyond, noted, stackedOn}
 use Rattle.meaning.specs.Codes.{opposite}
 use Rattle.moves.specs.Layout.{headAt, markAt, trailAt, spareAt, nextAt, head, mark, trail, spare, next, Tables}
-use Rattle.meaning.proofs.CodeLaws.{opposite-opposite, opposite-below}
-
--- codes with the same opposite are the same
-pub opposite-one : (x y : ℕ) → opposite x ≡ opposite y → x ≡ y
-opposite-one x y e = sym (opposite-opposite x) ∙ ap opposite e ∙ opposite-opposite y
+use Rattle.meaning.proofs.CodeLaws.{opposite-one, opposite-below}
 
 -- only the marks differ: nowhere, after two moves, after a store in the marks
 pub beyond-refl : (n : ℕ) (W : List ℕ) → Beyond n W W

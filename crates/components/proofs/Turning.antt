@@ -14,11 +14,11 @@ use Rattle.moves.specs.Lists.{Cursor}
 use Rattle.components.proofs.Settling.{alive, exact, round, collected, lives, mirrored}
 use Rattle.components.proofs.Storing.{beyond-refl, beyond-mark, Noted, Pushed}
 use Rattle.components.proofs.Walking.{alike, fits, deep, lowered, advanced, pushed, dropped}
-use Rattle.components.proofs.Ways.{join, once, turned-from, turned-to, words-of, step-lt, count-mono}
+use Rattle.components.proofs.Ways.{join, once, turned-from, turned-to, words-of, step-lt}
 use Rattle.meaning.proofs.ChainLaws.{reach-flip}
 use Rattle.meaning.proofs.CodeLaws.{opposite-opposite, opposite-below}
 use Rattle.meaning.proofs.General.{same?, below-or-from}
-use Rattle.moves.proofs.Counts.{count-le, count-lt, count-more}
+use Rattle.moves.proofs.Counts.{count-le, count-lt, count-more, count-mono}
 use Rattle.moves.proofs.Places.{mark-stored, mark-elsewhere}
 
 -- the end of a path of k places, and the code that stands there

@@ -8,9 +8,9 @@ use lib.ListN.{length, getD}
 use Rattle.components.specs.Walk.{In, Past, Dfs}
 use Rattle.meaning.specs.Chains.{Reach}
 use Rattle.meaning.specs.Codes.{opposite}
-use Rattle.components.proofs.Ways.{join, here, Words, reach-lt, count-mono}
+use Rattle.components.proofs.Ways.{join, here, Words, reach-lt}
 use Rattle.meaning.proofs.General.{same?, below-or-from}
-use Rattle.moves.proofs.Counts.{count-le, count-lt, count-more}
+use Rattle.moves.proofs.Counts.{count-le, count-lt, count-more, count-mono}
 
 -- ---- the same walk over other functions
 

@@ -1,17 +1,14 @@
 -- Ways from code to code, and the ends of rules, as the walk uses them.
 use mathlib.Core.Path.{_≡_, subst}
-use mathlib.Core.Logic.{_⊎_, inl, inr, ⊎-elim, _≢_}
 use mathlib.Core.List.{List, [], _∷_}
-use Prim.Native.Nat.{ℕ, zero, suc, _*_, _≤_, _<_}
+use Prim.Native.Nat.{ℕ, _*_, _<_}
 use native.Mathlib.Omega.{arith}
 use lib.ListN.{length, getD}
 use Rattle.meaning.specs.Chains.{Step, Chain, Reach, Tied}
 use Rattle.meaning.specs.Codes.{opposite}
 use Rattle.moves.specs.Layout.{Sizes}
-use Rattle.moves.specs.Walks.{countOf}
 use Rattle.meaning.proofs.ChainLaws.{reach-trans, reach-flip, reach-step}
 use Rattle.meaning.proofs.CodeLaws.{opposite-opposite}
-use Rattle.meaning.proofs.General.{same?, below-or-from}
 use Rattle.moves.proofs.Steps.{other-end-below, word-below, step-end}
 
 -- two ways in a row
@@ -52,37 +49,17 @@ words-of {n} {ws} s =
       ends = λ a k b st. let w = step-end s st in (w .0, w .1, w .2, w .3);
     }
 
--- what a code leads to and what it reaches are codes
+-- what a code leads to is a code
 pub step-lt : {N : ℕ} {ws : List ℕ} → Words N ws → {a k b : ℕ} → Step ws a k b → b < N
 step-lt ok {a} {k} {b} st =
     let w = ok .ends a k b st in
     omega (arith, ok .inside (w .0) (w .1), w .3)
 
+-- along a chain
 chain-lt : {N : ℕ} {ws : List ℕ} → Words N ws → (a : ℕ) (ks : List ℕ) (b : ℕ) → a < N → Chain ws a ks b → b < N
 chain-lt ok a [] b l p = omega arith
 chain-lt ok a (k ∷ ks) b l p = chain-lt ok (p .0) ks b (step-lt ok (p .1)) (p .2)
 
+-- and as far as it reaches
 pub reach-lt : {N : ℕ} {ws : List ℕ} {a b : ℕ} → Words N ws → a < N → Reach ws a b → b < N
 reach-lt {N} {ws} {a} {b} ok l r = chain-lt ok a (r .0) b l (r .1)
-
--- x is among g d .. g (k - 1), or not
-pub find? : (g : ℕ → ℕ) (x d k : ℕ) → ((p : ℕ) × (d ≤ p) × (p < k) × (g p ≡ x)) ⊎ ((p : ℕ) → d ≤ p → p < k → g p ≢ x)
-find? g x d zero = inr (λ p a b. absurd (omega arith))
-find? g x d (suc k) = go (find? g x d k) (below-or-from k d) (same? (g k) x)
-  where
-    go : ((p : ℕ) × (d ≤ p) × (p < k) × (g p ≡ x)) ⊎ ((p : ℕ) → d ≤ p → p < k → g p ≢ x) → (k < d) ⊎ (d ≤ k) → (g k ≡ x) ⊎ (g k ≢ x)
-        → ((p : ℕ) × (d ≤ p) × (p < suc k) × (g p ≡ x)) ⊎ ((p : ℕ) → d ≤ p → p < suc k → g p ≢ x)
-    go (inl w) b c = inl (w .0, w .1, omega (arith, w .2), w .3)
-    go (inr f) (inl b) c = inr (λ p u v. absurd (omega arith))
-    go (inr f) (inr b) (inl e) = inl (k, b, omega arith, e)
-    go (inr f) (inr b) (inr e) = inr (λ p u v. ⊎-elim (λ (q : p ≡ k). rw q e) (λ (q : p ≢ k). f p u (omega arith)) (same? p k))
-
--- where more numbers have a mark, the count is no less
-pub count-mono : (f g : ℕ → ℕ) (k : ℕ) → ((x : ℕ) → x < k → 0 < f x → 0 < g x) → countOf f k ≤ countOf g k
-unfolding countOf
-count-mono f g zero s = omega arith
-count-mono f g (suc k) s =
-    ⊎-elim
-    (λ (z : f k ≡ 0). omega (arith, count-mono f g k (λ x l. s x (omega arith))))
-    (λ (z : f k ≢ 0). omega (arith, s k (omega arith) (omega arith), count-mono f g k (λ x l. s x (omega arith))))
-    (same? (f k) 0)

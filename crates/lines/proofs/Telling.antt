@@ -21,11 +21,11 @@ use Rattle.meaning.specs.Refusals.{Due, none, numberOf, placeOf, listDue}
 use Rattle.meaning.specs.Promises.{Answered, Keeps, decidedRefusal, DecideSays, Decides, listedRefusal, ListedSays, Each, Forces, clashedRefusal, ClashSays, BothChains, Clashes}
 use Rattle.meaning.proofs.ChainLaws.{clash-impossible}
 use Rattle.meaning.proofs.ChainLength.{clash-within}
+use Rattle.meaning.proofs.RefusalLaws.{never}
 use Rattle.book.specs.Saved.{Savable}
 use Rattle.book.proofs.GivenLists.{saved-due, read-is-list}
 use Rattle.book.specs.declared.answer.Read.{Read}
 use Rattle.book.specs.Promise.{Reads}
-use Rattle.book.proofs.Refusing.{never}
 use Rattle.lines.specs.Text.{possibleText, impossibleText, refusalText}
 use Rattle.lines.specs.Inner.{Room, Puts}
 use Rattle.lines.specs.Promise.{textNeeds, wordsRoom, workRoom, ListText, BookText, Leaves}

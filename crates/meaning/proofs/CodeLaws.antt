@@ -16,6 +16,16 @@ pub opposite-opposite : (c : ℕ) → opposite (opposite c) ≡ c
 unfolding opposite
 opposite-opposite c = omega arith
 
+-- so codes with the same opposite are the same
+pub opposite-one : (x y : ℕ) → opposite x ≡ opposite y → x ≡ y
+unfolding opposite
+opposite-one x y e = omega arith
+
+-- no code is its own opposite
+pub opposite-other : (x : ℕ) → opposite x ≡ x → ⊥
+unfolding opposite
+opposite-other x e = omega arith
+
 -- the opposite of a code of n choices is one
 pub opposite-below : (n c : ℕ) → c < 2 * n → opposite c < 2 * n
 unfolding opposite

@@ -2,11 +2,13 @@
 use mathlib.Core.Path.{_≡_, refl, ap, subst}
 use mathlib.Core.Logic.{_⊎_, inl, inr, ⊎-elim, _≢_}
 use mathlib.Core.List.{List, [], _∷_}
-use Prim.Native.Nat.{ℕ, zero, suc, _≤_, _<_}
+use Prim.Native.Nat.{ℕ, zero, suc, _+_, _≤_, _<_}
 use native.Mathlib.Omega.{arith}
 use native.Mathlib.Nat.{le-of-suc-le-suc, not-suc-le-zero}
 use native.Mathlib.Decide.{decLt, ℕ-discrete}
-use lib.ListN.{length, getD}
+use native.Mathlib.Numerals.{add-one}
+use lib.ListN.{length, getD, drop}
+use lib.Seq.{drop-cons}
 
 -- two numbers: the first is less, or equal, or greater
 pub compared : (a b : ℕ) → (a < b) ⊎ ((a ≡ b) ⊎ (b < a))
@@ -32,6 +34,18 @@ below-suc {P} i all here j h = ⊎-elim (λ l. all j l) (λ l. let q : i ≡ j =
 pub last-or-below : (P : ℕ → Type 0) (m k : ℕ) → k < suc m → P k → ((k : ℕ) × (k < m) × P k) ⊎ P m
 last-or-below P m k h p = ⊎-elim (λ l. inl (k, l, p)) (λ l. inr (subst P (omega arith) p)) (below-or-from k m)
 
+-- x is among g d .. g (k - 1), or not
+pub find? : (g : ℕ → ℕ) (x d k : ℕ) → ((p : ℕ) × (d ≤ p) × (p < k) × (g p ≡ x)) ⊎ ((p : ℕ) → d ≤ p → p < k → g p ≢ x)
+find? g x d zero = inr (λ p a b. absurd (omega arith))
+find? g x d (suc k) = go (find? g x d k) (below-or-from k d) (same? (g k) x)
+  where
+    go : ((p : ℕ) × (d ≤ p) × (p < k) × (g p ≡ x)) ⊎ ((p : ℕ) → d ≤ p → p < k → g p ≢ x) → (k < d) ⊎ (d ≤ k) → (g k ≡ x) ⊎ (g k ≢ x)
+        → ((p : ℕ) × (d ≤ p) × (p < suc k) × (g p ≡ x)) ⊎ ((p : ℕ) → d ≤ p → p < suc k → g p ≢ x)
+    go (inl w) b c = inl (w .0, w .1, omega (arith, w .2), w .3)
+    go (inr f) (inl b) c = inr (λ p u v. absurd (omega arith))
+    go (inr f) (inr b) (inl e) = inl (k, b, omega arith, e)
+    go (inr f) (inr b) (inr e) = inr (λ p u v. ⊎-elim (λ (q : p ≡ k). rw q e) (λ (q : p ≢ k). f p u (omega arith)) (same? p k))
+
 -- the least number with a property
 abbrev pub Least : (ℕ → Type 0) → Type 0
 Least P = (k : ℕ) × P k × ((j : ℕ) → j < k → P j → ⊥)
@@ -50,20 +64,27 @@ least-below P d (suc m) = go (least-below P d m) (d m)
 pub least-of : (P : ℕ → Type 0) → ((k : ℕ) → Dec (P k)) → (m : ℕ) → P m → Least P
 least-of P d m p = ⊎-elim (λ h. h) (λ none. absurd (none m (omega arith) p)) (least-below P d (suc m))
 
+-- what stands from a place on: the item there, and what stands from the next place on
+pub drop-next : (l : List ℕ) (j : ℕ) → j < length l → drop j l ≡ getD l j 0 ∷ drop (j + 1) l
+drop-next l j h = rw (add-one, drop-cons l j 0)
+
 -- the list f 0, f 1, .., f (n - 1)
 abbrev pub build : ℕ → (ℕ → ℕ) → List ℕ
 build zero f = []
 build (suc n) f = f 0 ∷ build n (λ v. f (suc v))
 
+-- its length
 pub length-build : (n : ℕ) (f : ℕ → ℕ) → length (build n f) ≡ n
 length-build zero f = refl
 length-build (suc n) f = ap suc (length-build n (λ v. f (suc v)))
 
+-- its items
 pub getD-build : (n : ℕ) (f : ℕ → ℕ) (v : ℕ) → v < n → getD (build n f) v 0 ≡ f v
 getD-build zero f v h = absurd (not-suc-le-zero h)
 getD-build (suc n) f zero h = refl
 getD-build (suc n) f (suc v) h = getD-build n (λ v. f (suc v)) v (le-of-suc-le-suc h)
 
+-- a bound of f bounds them
 pub build-le : (n : ℕ) (f : ℕ → ℕ) (b : ℕ) → ((v : ℕ) → f v ≤ b) → (v : ℕ) → getD (build n f) v 0 ≤ b
 build-le zero f b h v = omega arith
 build-le (suc n) f b h zero = h 0

@@ -20,15 +20,17 @@ abbrev pub NoneApplies : List Check → Type 0
 NoneApplies [] = Unit {0}
 NoneApplies (check applies number place ∷ cs) = (applies ≡ false) × NoneApplies cs
 
-never : (number place : ℕ) → Due.none ≡ refused number place → ⊥
+-- nothing due is no refusal
+pub never : (number place : ℕ) → Due.none ≡ refused number place → ⊥
 never number place e = let z : _≡_ {A = ℕ} 0 1 = cc in omega arith
 
--- nothing is due exactly if no check applies
+-- where nothing is due, no check applies
 pub none-applies : (cs : List Check) → firstOf cs ≡ Due.none → NoneApplies cs
 none-applies [] e = tt
 none-applies (check true number place ∷ cs) e = absurd (never number place (sym e))
 none-applies (check false number place ∷ cs) e = (refl, none-applies cs e)
 
+-- and the other way round
 pub applies-none : (cs : List Check) → NoneApplies cs → firstOf cs ≡ Due.none
 applies-none [] h = refl
 applies-none (check applies number place ∷ cs) h = rw (h .0) (applies-none cs (h .1))
@@ -119,11 +121,12 @@ unfolding listDue
 due-needs n ws area needs needs′ work same =
     ⊎-elim (λ h. simp (lt-ltb maxChoices n h)) (λ h. ap (λ (k : ℕ). firstOf (listChecks n ws area k work)) (same h)) (below-or-from maxChoices n)
 
--- Next's list is accepted as any other, and its rota's bytes are values
-split-none : (cs ds : List Check) → NoneApplies (cs ++ ds) → NoneApplies cs × NoneApplies ds
+-- of two lists of checks none applies: none of either
+pub split-none : (cs ds : List Check) → NoneApplies (cs ++ ds) → NoneApplies cs × NoneApplies ds
 split-none [] ds h = (tt, h)
 split-none (check applies number place ∷ cs) ds h = let r = split-none cs ds (h .1) in ((h .0, r .0), r .1)
 
+-- Next's list is accepted as any other, and its rota's bytes are values
 pub next-accepted : (n : ℕ) (ws rota : List ℕ) (work : ℕ) → nextDue n ws rota work ≡ Due.none →
     Accepted n ws (length rota) (rotaNeeds n) work × ((i : ℕ) → i < length (take n rota) → getD (take n rota) i 0 < 2)
 unfolding nextDue

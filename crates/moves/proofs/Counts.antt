@@ -49,3 +49,13 @@ count-more f g (suc k) b l z p s =
     ))
     (λ e. omega (arith, s k (omega arith) (omega arith), count-more f g k b (omega arith) z p (λ x q. s x (omega arith))))
     (same? b k)
+
+-- where more numbers have a mark, the count is no less
+pub count-mono : (f g : ℕ → ℕ) (k : ℕ) → ((x : ℕ) → x < k → 0 < f x → 0 < g x) → countOf f k ≤ countOf g k
+unfolding countOf
+count-mono f g zero s = omega arith
+count-mono f g (suc k) s =
+    ⊎-elim
+    (λ (z : f k ≡ 0). omega (arith, count-mono f g k (λ x l. s x (omega arith))))
+    (λ (z : f k ≢ 0). omega (arith, s k (omega arith) (omega arith), count-mono f g k (λ x l. s x (omega arith))))
+    (same? (f k) 0)

@@ -12,18 +12,13 @@ use Rattle.moves.specs.Lists.{Ready}
 use Rattle.moves.specs.Trials.{Pulled, Pressed}
 use Rattle.moves.specs.Walks.{GoesOn, Listed, Held, Holding, Touched}
 use Rattle.meaning.proofs.ChainLaws.{reach-refl, reach-step, reach-trans}
-use Rattle.meaning.proofs.CodeLaws.{opposite-opposite}
+use Rattle.meaning.proofs.CodeLaws.{opposite-opposite, opposite-other}
 use Rattle.meaning.proofs.General.{same?, below-or-from}
 use Rattle.meaning.proofs.Sets.{Closed, Consistent}
 use Rattle.moves.proofs.Places.{apart-trans, tables-apart}
 use Rattle.moves.proofs.Steps.{end-step, step-to}
 use Rattle.moves.proofs.Trails.{trail-room, onto-trans}
 use Rattle.moves.proofs.Visiting.{touch-others, Touching, touching, Visiting, visit-turn, visit-all}
-
--- no code is its own opposite
-differ : (y : ℕ) → opposite y ≡ y → ⊥
-unfolding opposite
-differ y e = omega arith
 
 -- a touch of a code whose opposite has no mark leaves the set consistent
 pub touch-consistent : {n : ℕ} {W : List ℕ} {b t : ℕ} {W′ : List ℕ} {t′ : ℕ} → Tables n W → Listed n W t → b < 2 * n →
@@ -35,7 +30,7 @@ touch-consistent {n} {W} {b} {t} {W′} {t′} lw r lb d z s x p q =
     let off : (y : ℕ) → y < 2 * n → y ≢ b → mark n W′ y ≡ mark n W y = rw (res .0) (touch-others n W b 1 t lb (trail-room r lb m) lw) in
     ⊎-elim
     (λ (e : x ≡ b).
-    let ne : opposite x ≢ b = λ f. differ x (f ∙ sym e) in
+    let ne : opposite x ≢ b = λ f. opposite-other x (f ∙ sym e) in
     omega (arith, q .isMarked, off (opposite x) (q .isCode) ne, z m, ap (λ (y : ℕ). mark n W (opposite y)) e))
     (λ (e : x ≢ b). ⊎-elim
     (λ (f : opposite x ≡ b).
