@@ -12,7 +12,7 @@ use Rattle.meaning.specs.declared.refusal.Refusal.the-variants.{AnswerTooShort,
 use Rattle.meaning.specs.Sizes.{over}
 use Rattle.meaning.specs.Refusals.{numberOf, placeOf, none, Check, firstOf}
 use Rattle.meaning.proofs.AreaLaws.{overAt, over-at-none, over-at-one, over-at-append}
-use Rattle.meaning.proofs.RefusalLaws.{never, due-ahead}
+use Rattle.meaning.proofs.RefusalLaws.{not-refused, due-ahead}
 use Rattle.book.specs.declared.answer.Read.{Read}
 use Rattle.book.specs.declared.number.Number.{Number}
 use Rattle.book.specs.declared.codes.Checked.{Checked}
@@ -34,6 +34,7 @@ next-inside part at next h e = omega (arith, size-within mayFollow (drop at part
 abbrev codeChecks : (limit : ℕ) → List ℕ → (from at : ℕ) → List Check
 codeChecks limit part from at = limitChecks limit 4 (from + at) (drop at part)
 
+-- the checks of the codes from a place on
 abbrev checksFrom : (count limit : ℕ) → List ℕ → (from at : ℕ) → List Check
 checksFrom count limit part from at = codesChecks count limit (from + at) (drop at part)
 
@@ -102,8 +103,8 @@ module _ (part : List ℕ) (from count limit : ℕ) (before : List ℕ) (at k : 
       (sym (ap firstOf (codes-left part from limit at next (count - k) (count - (k + 1)) (omega arith) e)) ∙ w .good)
 
   -- so the code at `at` is not refused
-  pub not-refused : (r : Refusal) → NumberBelow limit 4 part from at (Number.Refused r) → ⊥
-  not-refused r e = never (numberOf r) (placeOf r) (sym (both (at + numberSize (drop at part)) refl .0) ∙ e)
+  pub code-not-refused : (r : Refusal) → NumberBelow limit 4 part from at (Number.Refused r) → ⊥
+  code-not-refused r e = not-refused (numberOf r) (placeOf r) (sym (both (at + numberSize (drop at part)) refl .0) ∙ e)
 
   -- and fits a word
   pub code-small : (value next : ℕ) → NumberBelow limit 4 part from at (Number.Value value next) → value < limit

@@ -10,7 +10,7 @@ use borrow.Author.Tests.{leb-true, leb-false, ltb-false, lt-ltb, le-ltb, le-leb,
 use lib.ListN.{length, getD, drop}
 use Rattle.meaning.specs.Refusals.{none, check, firstOf}
 use Rattle.meaning.proofs.General.{below-or-from}
-use Rattle.meaning.proofs.RefusalLaws.{never}
+use Rattle.meaning.proofs.RefusalLaws.{not-refused}
 use Rattle.book.specs.Number.{goesOn, formChecks, valueUpTo, sizeUpTo, numberChecks, numberValue}
 use Rattle.book.specs.Checks.{limitChecks}
 use Rattle.book.specs.Saved.{bytesUpTo}
@@ -68,7 +68,7 @@ pub record IsWritten (k least : ℕ) (bs : List ℕ) : Type 0 where
 
 -- every number of a good form is written so
 pub is-written : (k least at : ℕ) (bs : List ℕ) → least ≤ 1 → Bytes bs → firstOf (formChecks k least at bs) ≡ none → IsWritten k least bs
-is-written k least at [] l h e = absurd (never 7 at (sym e))
+is-written k least at [] l h e = absurd (not-refused 7 at (sym e))
 is-written zero least at (b ∷ bs) l h e =
     let f = check-none (goesOn b) 8 at (check (ltb b least) 9 at ∷ []) e in
     record { bytes = refl; enough = ltb-false b least (check-none (ltb b least) 9 at [] (f .1) .0) }

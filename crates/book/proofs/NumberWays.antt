@@ -49,12 +49,15 @@ module _ (part : List ℕ) (from at low : ℕ) (inside : at < length part) (firs
 
 -- number_below: a number whose form is refused is; one that reaches the limit is refused by `over`; any other is good
 module _ (part : List ℕ) (from at limit : ℕ) where
+  -- refused by its form
   pub form-refused : (number : ℕ) (r : Refusal) → NumberAt part from at (Number.Refused r) → NumberBelow limit number part from at (Number.Refused r)
   form-refused number r e = due-ahead (numberChecks (from + at) (drop at part)) _ (numberOf r) (placeOf r) e
 
   module _ (value next : ℕ) (said : NumberAt part from at (Number.Value value next)) where
+    -- refused by the limit
     pub at-limit : (over : Refusal) → placeOf over ≡ from + at → limit ≤ value → NumberBelow limit (numberOf over) part from at (Number.Refused over)
     at-limit over p h = behind (numberChecks (from + at) (drop at part)) _ (said .0) ∙ rw (← said .1, le-leb limit value h, p)
 
+    -- accepted
     pub below-limit : (number : ℕ) → value < limit → NumberBelow limit number part from at (Number.Value value next)
     below-limit number h = (behind (numberChecks (from + at) (drop at part)) _ (said .0) ∙ rw (← said .1, lt-leb limit value h), said .1, said .2)

@@ -7,8 +7,8 @@ use Prim.Native.Nat.{ℕ, zero, suc, _+_, _*_}
 use lib.ListN.{length}
 use Rattle.meaning.specs.declared.refusal.Refusal.{Refusal}
 use Rattle.meaning.specs.Sizes.{over}
-use Rattle.meaning.specs.Refusals.{numberOf, placeOf, Due, none, refused, asDue, Check, check, firstOf}
-use Rattle.meaning.proofs.RefusalLaws.{never, named, named-same, due-named}
+use Rattle.meaning.specs.Refusals.{numberOf, placeOf, Due, none, asDue, Check, check, firstOf}
+use Rattle.meaning.proofs.RefusalLaws.{not-refused, named, AllNamed, named-same, due-named}
 use Rattle.book.specs.declared.answer.Read.{Read}
 use Rattle.book.specs.Number.{mayFollow, goesOn, formChecks, numberChecks, numberSize, afterNumber}
 use Rattle.book.specs.Checks.{choicesIn, rulesIn, codeBytes, codesPlace, codesIn, limitChecks, codesChecks, choicesChecks, rulesChecks, bookChecks, bookDue}
@@ -18,7 +18,7 @@ use Rattle.book.proofs.NumberLaws.{either}
 module _ (due : Due) (n m : ℕ) (ws words : List ℕ) where
   -- an answer with n and m, and one that refuses
   clash : (i j : ℕ) (r : Refusal) (w v : List ℕ) → Gives due n m ws words (Read.Book i j) w → Gives due n m ws words (Read.Refused r) v → ⊥
-  clash i j r w v p q = never (numberOf r) (placeOf r) (p .refuses ∙ sym (q .refuses))
+  clash i j r w v p q = not-refused (numberOf r) (placeOf r) (p .refuses ∙ sym (q .refuses))
 
   -- the answer and the words are determined by what is due, n, m and ws
   gives-once : (r s : Read) (w v : List ℕ) → Gives due n m ws words r w → Gives due n m ws words s v → (r ≡ s) × (w ≡ v)
@@ -34,12 +34,7 @@ module _ (due : Due) (n m : ℕ) (ws words : List ℕ) where
 pub reads-once : (bs words : List ℕ) (r s : Read) (w v : List ℕ) → Reads bs words r w → Reads bs words s v → (r ≡ s) × (w ≡ v)
 reads-once bs words = gives-once (bookDue bs (length words)) (choicesIn bs) (rulesIn bs) (codesIn bs) words
 
--- each check is one of a refusal
-abbrev AllNamed : List Check → Type 0
-AllNamed [] = Unit {0}
-AllNamed (check applies number place ∷ cs) = (asDue (named number place) ≡ refused number place) × AllNamed cs
-
--- of two lists of checks
+-- the checks of two lists are those of refusals
 named-append : (cs ds : List Check) → AllNamed cs → AllNamed ds → AllNamed (cs ++ ds)
 named-append [] ds p q = q
 named-append (check applies number place ∷ cs) ds p q = (p .0, named-append cs ds (p .1) q)
@@ -56,12 +51,14 @@ form-named k least at [] = (refl, tt)
 form-named zero least at (b ∷ bs) = (refl, (refl, tt))
 form-named (suc k) least at (b ∷ bs) = either AllNamed (goesOn b) _ _ (form-named k 1 (at + 1) bs) (refl, tt)
 
+-- of the codes
 codes-named : (k limit at : ℕ) (bs : List ℕ) → AllNamed (codesChecks k limit at bs)
 codes-named zero limit at bs = (refl, tt)
 codes-named (suc k) limit at bs =
     named-append (limitChecks limit 4 at bs) _ (named-append (numberChecks at bs) _ (form-named mayFollow 0 at bs) (refl, tt))
     (codes-named k limit (at + numberSize bs) (afterNumber bs))
 
+-- of the whole book
 book-named : (bs : List ℕ) (room : ℕ) → AllNamed (bookChecks bs room)
 book-named bs room =
     named-append (choicesChecks bs) _ (named-append (numberChecks 0 bs) _ (form-named mayFollow 0 0 bs) (refl, tt))

@@ -9,7 +9,7 @@ use lib.Dec.{leb, ltb}
 use lib.ListN.{length, length-drop}
 use Rattle.meaning.specs.Sizes.{maxChoices, maxRules}
 use Rattle.meaning.specs.Refusals.{refused, Check, check, firstOf, shortPlace}
-use Rattle.meaning.proofs.RefusalLaws.{never}
+use Rattle.meaning.proofs.RefusalLaws.{not-refused}
 use Rattle.book.specs.Number.{mayFollow, goesOn, formChecks, numberChecks, numberValue, numberSize, afterNumber}
 use Rattle.book.specs.Checks.{choicesIn, rulesIn, codeBytes, codesPlace, limitChecks, codesChecks, choicesChecks, rulesChecks, restChecks, bookDue}
 use Rattle.book.proofs.NumberLaws.{size-within}
@@ -30,17 +30,17 @@ not-this false k p place cs h e = e
 form-ends : (k least at place : ℕ) (bs : List ℕ) → firstOf (formChecks k least at bs) ≡ refused 7 place → place ≡ at + length bs
 form-ends k least at place [] e = let f : at ≡ place = cc in omega arith
 form-ends zero least at place (b ∷ bs) e =
-    absurd (never 7 place (not-this (ltb b least) 9 at place [] (omega arith) (not-this (goesOn b) 8 at place (check (ltb b least) 9 at ∷ []) (omega arith) e)))
+    absurd (not-refused 7 place (not-this (ltb b least) 9 at place [] (omega arith) (not-this (goesOn b) 8 at place (check (ltb b least) 9 at ∷ []) (omega arith) e)))
 form-ends (suc k) least at place (b ∷ bs) e = go (form-ends k 1 (at + 1) place bs) (goesOn b) refl
   where
     go : (firstOf (formChecks k 1 (at + 1) bs) ≡ refused 7 place → place ≡ at + 1 + length bs) → (t : Bool) → goesOn b ≡ t → place ≡ at + suc (length bs)
     go rest true q = omega (arith, rest (rw q at e))
-    go rest false q = absurd (never 7 place (not-this (ltb b least) 9 at place [] (omega arith) (rw q at e)))
+    go rest false q = absurd (not-refused 7 place (not-this (ltb b least) 9 at place [] (omega arith) (rw q at e)))
 
 -- of a number with a limit that is refused by another number than 7
 limit-ends : (limit number at place : ℕ) (bs : List ℕ) → (number ≡ 7 → ⊥) → firstOf (limitChecks limit number at bs) ≡ refused 7 place → place ≡ at + length bs
 limit-ends limit number at place bs h e =
-    ⊎-elim (form-ends mayFollow 0 at place bs) (λ f. absurd (never 7 place (not-this (leb limit (numberValue bs)) number at place [] h f)))
+    ⊎-elim (form-ends mayFollow 0 at place bs) (λ f. absurd (not-refused 7 place (not-this (leb limit (numberValue bs)) number at place [] h f)))
     (due-of (numberChecks at bs) (check (leb limit (numberValue bs)) number at ∷ []) 7 place e)
 
 -- what is left after a number ends where the whole does
@@ -49,7 +49,7 @@ same-end at place bs e = omega (arith, size-within mayFollow bs, length-drop (nu
 
 -- of codes
 codes-end : (k limit at place : ℕ) (bs : List ℕ) → firstOf (codesChecks k limit at bs) ≡ refused 7 place → place ≡ at + length bs
-codes-end zero limit at place bs e = absurd (never 7 place (not-this (ltb 0 (length bs)) 10 at place [] (omega arith) e))
+codes-end zero limit at place bs e = absurd (not-refused 7 place (not-this (ltb 0 (length bs)) 10 at place [] (omega arith) e))
 codes-end (suc k) limit at place bs e =
     ⊎-elim (limit-ends limit 4 at place bs (omega arith))
     (λ f. same-end at place bs (codes-end k limit (at + numberSize bs) place (afterNumber bs) f))
@@ -62,6 +62,7 @@ rest-ends bs room place e =
     codes-end (2 * rulesIn bs) (2 * choicesIn bs) (codesPlace bs) place (codeBytes bs)
     (not-this (ltb room (2 * rulesIn bs)) 6 (shortPlace (2 * rulesIn bs)) place codes (omega arith) e)
 
+-- of what follows n
 rules-end : (bs : List ℕ) (room place : ℕ) → firstOf (rulesChecks bs ++ restChecks bs room) ≡ refused 7 place → place ≡ numberSize bs + length (afterNumber bs)
 rules-end bs room place e =
     ⊎-elim (limit-ends (maxRules + 1) 3 (numberSize bs) place (afterNumber bs) (omega arith))

@@ -41,6 +41,7 @@ module _ {n : ℕ} {ws : List ℕ} {c : ℕ} {W₀ W : List ℕ} {r : ℕ} (s : 
       let g = sp .least ks x p in
       (g .0, ⊎-elim (λ (h : 0 < mark n W₀ x). absurd (omega (arith, clean x l))) (λ h. h) (g .1))
 
+  -- so marks are small
   few : (x : ℕ) → x < 2 * n → mark n W x ≤ 2 * n
   few x l =
       ⊎-elim
@@ -51,6 +52,7 @@ module _ {n : ℕ} {ws : List ℕ} {c : ℕ} {W₀ W : List ℕ} {r : ℕ} (s : 
       omega (arith, shortest-length ws x n (s .codes) c (sh .0) lc (sh .1), bound x (sh .0) l (sh .1 .chain)))
       (same? (mark n W x) 0)
 
+  -- so the marks tell how far each code is from the opposite of c
   pub away : Away n ws c W
   away =
       record {
@@ -69,6 +71,7 @@ abbrev pub dist : ℕ → List ℕ → ℕ → ℕ
 dist n W a = (mark n W (opposite a) - 1) + 65536 * (1 - mark n W (opposite a))
 
 module _ {n : ℕ} {ws : List ℕ} {c : ℕ} {W : List ℕ} (s : Sizes n ws W) (lc : c < 2 * n) (aw : Away n ws c W) where
+  -- a step lowers the distance by one at most
   slow : (a k b : ℕ) → Step ws a k b → dist n W a ≤ dist n W b + 1
   slow a k b st =
       let la : a < 2 * n = step-from s a k b st in
@@ -79,6 +82,7 @@ module _ {n : ℕ} {ws : List ℕ} {c : ℕ} {W : List ℕ} (s : Sizes n ws W) (
       omega (arith, w .2, aw .least a (k ∷ w .0) la (b, st, w .1)))
       (same? (mark n W (opposite b)) 0)
 
+  -- so it is one
   pub distance : Distance ws (opposite c) (dist n W)
   distance = record { end = omega (arith, aw .least (opposite c) [] (opposite-below n c lc) refl); slow = slow }
 

@@ -28,6 +28,7 @@ module _ {n : ℕ} {ws W : List ℕ} (rd : Ready n ws W) where
       record { cur = first-cursor f; none = λ z k l q u m. none-passed f (omega arith) l q u; first = λ z. absurd (false≢true z) }
 
   module _ {a d : ℕ} {found : Bool} {rule e e′ : ℕ} (r : Picking n ws W a d found rule e) (p : 0 < e) (qe : e′ ≡ next n W (e - 1)) where
+    -- the cursor goes on
     cur′ : Cursor ws a e′
     cur′ = cursor-next (nexts-of rd) (r .cur) p qe
 

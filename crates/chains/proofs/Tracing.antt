@@ -29,6 +29,7 @@ pub record Tracing (n : ℕ) (ws W : List ℕ) (c at len : ℕ) (area₀ area : 
   pub written : area ≡ overAt at chain area₀
   pub completed : (rest : List ℕ) → Near n ws W c a rest → Near n ws W c c (chain ++ rest)
 
+-- at its start nothing is written
 pub trace-start : {n : ℕ} (ws W : List ℕ) {c len : ℕ} (at : ℕ) (area : List ℕ) → c < 2 * n → mark n W (opposite c) ≡ len + 1 → Tracing n ws W c at len area area c 0
 trace-start ws W at area lc q =
     record {
@@ -63,6 +64,7 @@ module _ {n : ℕ} {ws : List ℕ} {c : ℕ} {W : List ℕ} (s : Sizes n ws W) (
         h,
       )
 
+  -- a turn writes the lowest rule that leads nearer
   pub trace-turn : {at len : ℕ} {area₀ area : List ℕ} {a i d k b : ℕ} → Tracing n ws W c at len area₀ area a i → i < len → len ≤ 2 * n →
       at + len ≤ length area₀ → d ≡ len - i → LowestTo n ws W a d k → Step ws a k b → Tracing n ws W c at len area₀ (set area (at + i) k) b (i + 1)
   trace-turn {at} {len} {area₀} {area} {a} {i} {d} {k} {b} t l small fits qd low st =
@@ -81,6 +83,7 @@ module _ {n : ℕ} {ws : List ℕ} {c : ℕ} {W : List ℕ} (s : Sizes n ws W) (
             (t .completed (k ∷ rest) (onward (omega (arith, t .left)) (omega arith) (omega arith) low st rest h));
       }
 
+  -- at its end the chain is the one that is named
   pub trace-done : {at len : ℕ} {area₀ area : List ℕ} {a i : ℕ} → Tracing n ws W c at len area₀ area a i → len ≤ i → Traced ws c at area₀ area len
   trace-done {at} {len} {area₀} {area} {a} {i} t z =
       let end : a ≡ opposite c = arrived s lc aw (t .code) (omega (arith, t .left, t .low)) in

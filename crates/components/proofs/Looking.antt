@@ -192,6 +192,7 @@ closed-alone {n} {d} {t} {l} {v} {W} {W′} a q b =
       mirrors = λ p. absurd (omega arith);
     }
 
+-- with their opposites
 pub closed-both : (m : ℕ) {n d t l v u : ℕ} {W M W′ : List ℕ} → Least (trail n W) d t l → v ≡ settledRank n l → Settled n (trail n W) d t v W M
     → Lone n d t M (m + 1) → u ≡ settledRank n m → Settled n (across n M) d t u M W′ → Closed n d t W W′
 closed-both m {n} {d} {t} {l} {v} {u} {W} {M} {W′} a q b o q′ c =

@@ -24,6 +24,7 @@ module _ {N : ℕ} {ws : List ℕ} {r s d cu : ℕ → ℕ} {t m : ℕ} (h : Dfs
   last-on-stack : d m < t
   last-on-stack = h .climb m (omega arith) .1
 
+  -- a place of the last part
   in-last : (p : ℕ) → d m ≤ p → p < t → In d t (m + 1) m p
   in-last p a b = record { on = omega arith; from = a; within = b; under = λ u. absurd (omega arith) }
 
@@ -31,6 +32,7 @@ module _ {N : ℕ} {ws : List ℕ} {r s d cu : ℕ → ℕ} {t m : ℕ} (h : Dfs
   kept : (p : ℕ) → p < d m → r′ (s p) ≡ r (s p)
   kept p a = old (s p) (h .stacked p (omega (arith, last-on-stack)) .0) (λ q b c e. omega (arith, h .one q p c (omega (arith, last-on-stack)) e))
 
+  -- what was settled stays
   firm : (x : ℕ) → x < N → N < r x → r′ x ≡ r x
   firm x a b = old x a (λ q u v e. omega (arith, ap r e, unsettled h q v))
 
@@ -59,9 +61,11 @@ module _ {N : ℕ} {ws : List ℕ} {r s d cu : ℕ → ℕ} {t m : ℕ} (h : Dfs
       go (stays p u e f) = omega arith
       go (now′ p u v e f) = omega arith
 
+  -- what is not met now was not before
   unmet-before : (x : ℕ) → x < N → r′ x ≡ 0 → r x ≡ 0
   unmet-before x a z = ⊎-elim (λ (e : r x ≡ 0). e) (λ (e : r x ≢ 0). omega (arith, alive x a (omega arith))) (same? (r x) 0)
 
+  -- and what is met now was
   had-rank : (x : ℕ) → x < N → 0 < r′ x → 0 < r x
   had-rank x a b =
       ⊎-elim
@@ -205,9 +209,11 @@ module _ {N : ℕ} {ws : List ℕ} {r s d cu : ℕ → ℕ} {t k : ℕ} (h : Dfs
   fixed : (x : ℕ) → x < N → 0 < r x → r′ x ≡ r x
   fixed x l m = old x l (λ p u v e. omega (arith, ap r e, unmet p u v))
 
+  -- so what was met stays met
   pub lives : (x : ℕ) → x < N → 0 < r x → 0 < r′ x
   lives x l m = omega (arith, fixed x l m)
 
+  -- and the ranks on the stack stay
   fixed-on-stack : (p : ℕ) → p < t → r′ (s p) ≡ r (s p)
   fixed-on-stack p l = fixed (s p) (h .stacked p l .0) (h .stacked p l .1)
 

@@ -15,6 +15,7 @@ use Rattle.meaning.proofs.CodeLaws.{opposite-one, opposite-below}
 pub beyond-refl : (n : ℕ) (W : List ℕ) → Beyond n W W
 beyond-refl n W = record { long = refl; heads = λ c l. refl; trails = λ i. refl; spares = λ j. refl; nexts = λ e. refl }
 
+-- after two moves
 pub beyond-trans : {n : ℕ} {W W′ W″ : List ℕ} → Beyond n W W′ → Beyond n W′ W″ → Beyond n W W″
 beyond-trans p q =
     record {
@@ -25,6 +26,7 @@ beyond-trans p q =
       nexts = λ e. q .nexts e ∙ p .nexts e;
     }
 
+-- after a store in the marks
 pub beyond-mark : (n : ℕ) (W : List ℕ) (x v : ℕ) → x < 2 * n → Beyond n W (set W (markAt n x) v)
 beyond-mark n W x v l =
     record {

@@ -22,12 +22,15 @@ use Rattle.moves.proofs.Places.{sizes-long}
 pub side-refl : (n : ℕ) (W : List ℕ) → Side n W W
 side-refl n W = record { long = refl; nexts = λ e. refl }
 
+-- two moves in a row
 pub side-trans : {n : ℕ} {W W′ W″ : List ℕ} → Side n W W′ → Side n W′ W″ → Side n W W″
 side-trans p q = record { long = q .long ∙ p .long; nexts = λ e. q .nexts e ∙ p .nexts e }
 
+-- the sizes stay
 pub sizes-side : {n : ℕ} {ws W W′ : List ℕ} → Sizes n ws W → Side n W W′ → Sizes n ws W′
 sizes-side s p = sizes-long s (p .long)
 
+-- and the rests of the lists
 pub nexts-side : {n : ℕ} {ws W W′ : List ℕ} → Nexts n ws W → Side n W W′ → Nexts n ws W′
 nexts-side {n} {ws} {W} {W′} x p = record { nexts = λ e l. rw (p .nexts e) (x .nexts e l) }
 

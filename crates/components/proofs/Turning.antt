@@ -25,6 +25,7 @@ use Rattle.moves.proofs.Places.{mark-stored, mark-elsewhere}
 abbrev pub lastPlace : ℕ → List ℕ → ℕ → ℕ
 lastPlace n W k = spare n W (k - 1)
 
+-- and its code
 abbrev pub lastCode : ℕ → List ℕ → ℕ → ℕ
 lastCode n W k = trail n W (lastPlace n W k)
 

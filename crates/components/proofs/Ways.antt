@@ -19,6 +19,7 @@ join {ws} {a} {b} {c} p q = reach-trans ws a b c p q
 pub here : {ws : List ℕ} {a b : ℕ} → a ≡ b → Reach ws a b
 here e = ([], e)
 
+-- one step
 pub once : {ws : List ℕ} {a k b : ℕ} → Step ws a k b → Reach ws a b
 once {ws} {a} {k} {b} st = reach-step ws a k b st
 
@@ -26,6 +27,7 @@ once {ws} {a} {k} {b} st = reach-step ws a k b st
 pub turned-from : {ws : List ℕ} {a b : ℕ} → Reach ws (opposite a) b → Reach ws (opposite b) a
 turned-from {ws} {a} {b} r = subst (λ (x : ℕ). Reach ws (opposite b) x) (opposite-opposite a) (reach-flip ws (opposite a) b r)
 
+-- from the opposite of the other
 pub turned-to : {ws : List ℕ} {a b : ℕ} → Reach ws a (opposite b) → Reach ws b (opposite a)
 turned-to {ws} {a} {b} r = subst (λ (x : ℕ). Reach ws x (opposite a)) (opposite-opposite b) (reach-flip ws a (opposite b) r)
 
@@ -33,6 +35,7 @@ turned-to {ws} {a} {b} r = subst (λ (x : ℕ). Reach ws x (opposite a)) (opposi
 pub tied-flip : {ws : List ℕ} {a b : ℕ} → Tied ws a b → Tied ws b a
 tied-flip p = (p .1, p .0)
 
+-- ties join
 pub tied-join : {ws : List ℕ} {a b c : ℕ} → Tied ws a b → Tied ws b c → Tied ws a c
 tied-join p q = (join (p .0) (q .0), join (q .1) (p .1))
 

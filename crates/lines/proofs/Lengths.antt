@@ -29,6 +29,7 @@ short (suc j) k x h = go k h (λ i. short j i (x / 10)) (ltb x 10) refl
         let small : x / 10 < tens k = omega arith in
         omega (arith, length-append (digitsUpTo j (x / 10)) ((48 + x % 10) ∷ []), rest k small)
 
+-- so has the number itself
 digits-short : (k x : ℕ) → x < tens k → length (digits x) ≤ suc k
 unfolding digits
 digits-short k x h = short x k x h
@@ -44,6 +45,7 @@ signs-long : (xs : List ℕ) → length (spelled signed xs) ≡ length xs
 signs-long [] = refl
 signs-long (x ∷ xs) = omega (arith, signs-long xs)
 
+-- with their space
 values-short : (xs : List ℕ) → length (values xs) ≤ 1 + length xs
 values-short [] = omega arith
 values-short (x ∷ xs) = omega (arith, signs-long (x ∷ xs))
@@ -53,6 +55,7 @@ numbers-long : (word xs : List ℕ) → length (numbersLine word xs) ≡ length 
 unfolding numbersLine
 numbers-long word xs = omega (arith, length-append word (spelled field xs ++ lineEnd), length-append (spelled field xs) lineEnd)
 
+-- a row of values
 row-long : (word xs : List ℕ) → length (valuesLine word xs) ≤ length word + length xs + 2
 unfolding valuesLine
 row-long word xs = omega (arith, length-append word (values xs ++ lineEnd), length-append (values xs) lineEnd, values-short xs)
@@ -62,9 +65,11 @@ pair-short : (k a b : ℕ) → a < tens k → b < tens k → length (spelled fie
 pair-short k a b p q =
     omega (arith, length-append (digits a) (spelled field (b ∷ [])), length-append (digits b) [], digits-short k a p, digits-short k b q)
 
+-- one number of at most four digits
 one-short : (v : ℕ) → v < tens 3 → length (spelled field (v ∷ [])) ≤ 5
 one-short v h = omega (arith, length-append (digits v) [], digits-short 3 v h)
 
+-- the text of a possible list
 pub possible-short : (n m : ℕ) (rota forced : List ℕ) → n ≤ maxChoices → m ≤ maxRules → length rota ≡ n → length forced ≡ n →
     length (possibleText n m rota forced) ≤ textNeeds
 possible-short n m rota forced p q e f =
@@ -81,6 +86,7 @@ possible-short n m rota forced p q e f =
       row-long forcedWord forced,
     )
 
+-- of an impossible one
 pub impossible-short : (n m v : ℕ) (there back : List ℕ) → n ≤ maxChoices → m ≤ maxRules → v ≤ maxChoices → length there + length back ≤ 4 * maxChoices →
     ((i : ℕ) → i < length there → getD there i 0 < tens 3) → ((i : ℕ) → i < length back → getD back i 0 < tens 3) →
     length (impossibleText n m v there back) ≤ textNeeds
@@ -104,6 +110,7 @@ impossible-short n m v there back p q l long low low′ =
       fields-short back low′,
     )
 
+-- of a refusal
 pub refusal-short : (number place : ℕ) → number < 2 ^ 64 → place < 2 ^ 64 → length (refusalText number place) ≤ textNeeds
 refusal-short number place p q =
     omega (arith, numbers-long refusedWord (number ∷ place ∷ []), pair-short 19 number place (omega arith) (omega arith))

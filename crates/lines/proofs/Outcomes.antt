@@ -36,6 +36,7 @@ module _ (n : ℕ) (ws : List ℕ) where
       shortest-unique ws (early (q .choice)) (late (q .choice)) (p .back) (q .back) (rw e at (p .backShortest)) (q .backShortest) in
       p .is ∙ rw (e, f, g) (sym (q .is))
 
+  -- a list is not both
   never-both : (t u : List ℕ) → PossibleTold n ws t → ImpossibleTold n ws u → ⊥
   never-both t u p q = first-or-clash n ws (p .rota) (q .choice) (p .first) (q .lowest)
 
@@ -45,6 +46,7 @@ module _ (n : ℕ) (ws : List ℕ) where
       ⊎-elim (λ (a : PossibleTold n ws t). ⊎-elim (possible-once t u a) (λ (b : ImpossibleTold n ws u). absurd (never-both t u a b)) q)
       (λ (a : ImpossibleTold n ws t). ⊎-elim (λ (b : PossibleTold n ws u). absurd (never-both u t b a)) (impossible-once t u a) q) p
 
+  -- what is due has one text
   due-once : (due : Due) (t u : List ℕ) → DueText due n ws t → DueText due n ws u → t ≡ u
   due-once Due.none t u p q = list-once t u p q
   due-once (refused number place) t u p q = p ∙ sym (q)

@@ -33,6 +33,7 @@ module _ (f : ℕ → List ℕ) where
 abbrev pub copied : ℕ → List ℕ
 copied x = x ∷ []
 
+-- are spelled as they are
 pub spelled-copy : (xs : List ℕ) → spelled copied xs ≡ xs
 spelled-copy [] = refl
 spelled-copy (x ∷ xs) = ap (λ (l : List ℕ). x ∷ l) (spelled-copy xs)

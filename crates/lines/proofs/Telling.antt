@@ -21,7 +21,7 @@ use Rattle.meaning.specs.Refusals.{Due, none, numberOf, placeOf, listDue}
 use Rattle.meaning.specs.Promises.{Answered, Keeps, decidedRefusal, DecideSays, Decides, listedRefusal, ListedSays, Each, Forces, clashedRefusal, ClashSays, BothChains, Clashes}
 use Rattle.meaning.proofs.ChainLaws.{clash-impossible}
 use Rattle.meaning.proofs.ChainLength.{clash-within}
-use Rattle.meaning.proofs.RefusalLaws.{never}
+use Rattle.meaning.proofs.RefusalLaws.{not-refused}
 use Rattle.book.specs.Saved.{Savable}
 use Rattle.book.proofs.GivenLists.{saved-due, read-is-list}
 use Rattle.book.specs.declared.answer.Read.{Read}
@@ -73,7 +73,7 @@ module _ {n : ℕ} {ws : List ℕ} (s : Savable n ws wordsRoom) where
     -- Decide is not refused
     pub decide-not-refused : {r : Refusal} → Decides n ws area work (Decided.Refused r) area′ work′ → workRoom ≤ length work → maxChoices ≤ length area → ⊥
     decide-not-refused {r} k room h =
-        never (numberOf r) (placeOf r)
+        not-refused (numberOf r) (placeOf r)
         (sym (answers decidedRefusal (DecideSays n ws) (rotaNeeds n) area work (Decided.Refused r) area′ work′ (omega (arith, s .choices)) room k .0))
 
     -- where it says possible, the rota's area starts with the first rota
@@ -92,9 +92,10 @@ module _ {n : ℕ} {ws : List ℕ} (s : Savable n ws wordsRoom) where
     -- Forced is not refused, and where there is a rota it does not say impossible
     pub forced-not-refused : {r : Refusal} → Forces n ws area work (Listed.Refused r) area′ work′ → workRoom ≤ length work → maxChoices ≤ length area → ⊥
     forced-not-refused {r} k room h =
-        never (numberOf r) (placeOf r)
+        not-refused (numberOf r) (placeOf r)
         (sym (answers listedRefusal (ListedSays n ws (Forced n ws)) (rotaNeeds n) area work (Listed.Refused r) area′ work′ (omega (arith, s .choices)) room k .0))
 
+    -- nor does it say impossible
     pub forced-not-impossible : {rota : List ℕ} → Forces n ws area work Listed.Impossible area′ work′ → workRoom ≤ length work → maxChoices ≤ length area →
         First n ws rota → ⊥
     forced-not-impossible {rota} k room h f =
@@ -110,9 +111,10 @@ module _ {n : ℕ} {ws : List ℕ} (s : Savable n ws wordsRoom) where
     -- Clash is not refused, and where there is no rota it does not say possible
     pub clash-not-refused : {r : Refusal} → Clashes n ws area work (Clashed.Refused r) area′ work′ → workRoom ≤ length work → chainsNeed maxChoices ≤ length area → ⊥
     clash-not-refused {r} k room h =
-        never (numberOf r) (placeOf r)
+        not-refused (numberOf r) (placeOf r)
         (sym (answers clashedRefusal (ClashSays n ws) (chainsNeed n) area work (Clashed.Refused r) area′ work′ (omega (arith, s .choices)) room k .0))
 
+    -- nor does it say possible
     pub clash-not-possible : Clashes n ws area work Clashed.Possible area′ work′ → workRoom ≤ length work → chainsNeed maxChoices ≤ length area →
         Impossible n ws → ⊥
     clash-not-possible k room h f =

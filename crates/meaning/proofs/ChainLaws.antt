@@ -48,7 +48,7 @@ module _ (ws : List ℕ) where
   pub reach-flip : (a b : ℕ) → Reach ws a b → Reach ws (opposite b) (opposite a)
   reach-flip a b p = (reverse (p .0), chain-flip a (p .0) b (p .1))
 
--- in a rota a code or its opposite is true, and never both
+-- in a rota a code or its opposite is true
 pub true-or-opposite : (n : ℕ) (r : List ℕ) → Rota n r → (c : ℕ) → True r c ⊎ True r (opposite c)
 true-or-opposite n r h c =
     elim (ℕ-discrete (getD r (choiceOf c) 0) (valueOf c)) [
@@ -56,16 +56,19 @@ true-or-opposite n r h c =
       | no e ↦ inr (rw (opposite-choice c) (omega (arith, opposite-value c, h .bits (choiceOf c))))
     ]
 
+-- never both
 pub never-both : (r : List ℕ) (c : ℕ) → True r c → True r (opposite c) → ⊥
 never-both r c t u = omega (arith, opposite-value c, rw (opposite-choice c) at u)
 
--- what the two codes of a choice say
+-- what the two codes of a choice say: late is 1
 pub true-late : (r : List ℕ) (v : ℕ) → True r (late v) → getD r v 0 ≡ 1
 true-late r v t = omega (arith, rw (choice-late v) at t)
 
+-- early is 0
 pub true-early : (r : List ℕ) (v : ℕ) → True r (early v) → getD r v 0 ≡ 0
 true-early r v t = omega (arith, rw (choice-early v) at t)
 
+-- and the other way round
 pub late-true : (r : List ℕ) (v : ℕ) → getD r v 0 ≡ 1 → True r (late v)
 late-true r v e = rw (choice-late v) (omega arith)
 
@@ -74,6 +77,7 @@ early-true r v e = rw (choice-early v) (omega arith)
 
 -- steps and chains are sound: in an allowed rota they lead from true codes to true codes
 module _ (n : ℕ) (ws r : List ℕ) (ok : Allowed n ws r) where
+  -- a step
   pub step-sound : (a k b : ℕ) → Step ws a k b → True r a → True r b
   step-sound a k b s t =
       ⊎-elim
@@ -81,10 +85,12 @@ module _ (n : ℕ) (ws r : List ℕ) (ok : Allowed n ws r) where
       (λ e. ⊎-elim (λ m. rw (e .1) at m) (λ m. absurd (never-both r a t (rw (e .0) at m))) (ok .met k (s .isRule)))
       (s .leads)
 
+  -- a chain
   pub chain-sound : (a : ℕ) (ks : List ℕ) (b : ℕ) → Chain ws a ks b → True r a → True r b
   chain-sound a [] b p t = rw p at t
   chain-sound a (k ∷ ks) b p t = chain-sound (p .0) ks b (p .2) (step-sound a k (p .0) (p .1) t)
 
+  -- so what is reached from a true code is true
   pub reach-sound : (a b : ℕ) → Reach ws a b → True r a → True r b
   reach-sound a b p t = chain-sound a (p .0) b (p .1) t
 
@@ -104,6 +110,7 @@ pub late-early-forces : (n : ℕ) (ws : List ℕ) (v : ℕ) → Reach ws (late v
 late-early-forces n ws v p r ok =
     true-early r v (rw (opposite-late v) at (reach-opposite n ws r ok (late v) (rw (opposite-late v) p)))
 
+-- and one from early to late alone late
 pub early-late-forces : (n : ℕ) (ws : List ℕ) (v : ℕ) → Reach ws (early v) (late v) → Always n ws v 1
 early-late-forces n ws v p r ok =
     true-late r v (rw (opposite-early v) at (reach-opposite n ws r ok (early v) (rw (opposite-early v) p)))

@@ -10,10 +10,12 @@ use Rattle.meaning.specs.Chains.{Step, Chain, Clash, Shortest}
 use Rattle.meaning.specs.Codes.{late, early}
 use Rattle.meaning.specs.Rules.{InRange}
 
+-- x is one of the list
 abbrev In : ℕ → List ℕ → Type 0
 In x [] = ⊥
 In x (y ∷ ys) = (x ≡ y) ⊎ In x ys
 
+-- no number stands in the list twice
 abbrev Distinct : List ℕ → Type 0
 Distinct [] = Unit {0}
 Distinct (x ∷ xs) = (In x xs → ⊥) × Distinct xs
@@ -51,6 +53,7 @@ module _ (ws : List ℕ) (b : ℕ) where
   stops a [] p = a ∷ []
   stops a (k ∷ ks) p = a ∷ stops (p .0) ks (p .2)
 
+  -- one more than its rules
   length-stops : (a : ℕ) (ks : List ℕ) (p : Chain ws a ks b) → length (stops a ks p) ≡ suc (length ks)
   unfolding stops
   length-stops a [] p = refl
@@ -63,6 +66,7 @@ module _ (ws : List ℕ) (b : ℕ) where
   rest a (k ∷ ks) p x (inl e) = (k ∷ ks, rw e p, omega arith)
   rest a (k ∷ ks) p x (inr m) = let r = rest (p .0) ks (p .2) x m in (r .0, r .1, omega (arith, r .2))
 
+  -- the codes of a shortest chain are all different
   distinct : (a : ℕ) (ks : List ℕ) (p : Chain ws a ks b) → ((js : List ℕ) → Chain ws a js b → length ks ≤ length js) → Distinct (stops a ks p)
   unfolding stops
   distinct a [] p short = ((λ m. m), tt)
@@ -72,17 +76,20 @@ module _ (ws : List ℕ) (b : ℕ) where
   )
 
   module _ (n : ℕ) (range : InRange n ws) where
+    -- a step leads to a code of the n choices
     pub step-below : (a k c : ℕ) → Step ws a k c → c < 2 * n
     step-below a k c s =
         ⊎-elim (λ h. omega (arith, h .1, range k (s .isRule) .1))
         (λ h. omega (arith, h .1, range k (s .isRule) .0)) (s .leads)
 
+    -- so all codes of a chain are such
     stops-below : (a : ℕ) (ks : List ℕ) (p : Chain ws a ks b) → a < 2 * n → (x : ℕ) → In x (stops a ks p) → x < 2 * n
     unfolding stops
     stops-below a [] p h x (inl e) = omega arith
     stops-below a (k ∷ ks) p h x (inl e) = omega arith
     stops-below a (k ∷ ks) p h x (inr m) = stops-below (p .0) ks (p .2) (step-below a k (p .0) (p .1)) x m
 
+    -- hence the length of a shortest chain
     pub shortest-length : (a : ℕ) (ks : List ℕ) → a < 2 * n → Shortest ws a b ks → length ks < 2 * n
     shortest-length a ks h s =
         omega (

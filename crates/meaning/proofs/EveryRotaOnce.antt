@@ -15,7 +15,7 @@ use Rattle.meaning.specs.Rotas.{Allowed, Possible, First, Next, Ended}
 use Rattle.meaning.specs.Rules.{right}
 use Rattle.meaning.specs.Runs.{Follow, InOrder, GoesOn, Run, OneOf, Ascending, EveryRota}
 use Rattle.meaning.specs.Sizes.{rotaNeeds}
-use Rattle.meaning.proofs.Once.{not-refused}
+use Rattle.meaning.proofs.RefusalLaws.{not-refused}
 use Rattle.meaning.proofs.OrderLaws.{before-trans, ordered}
 
 -- where nothing is due, an answer says what it says
@@ -30,11 +30,13 @@ decided-first {n} {ws} {area} {work} {area′} {work′} p =
     let a = answered (listDue n ws (length area) (rotaNeeds n) (length work)) (p .refuses) (p .after) in
     rw (a .written, take-at (a .items) (drop (length (a .items)) area) n (a .right .allowed .rota .long)) (a .right)
 
+-- Next: the next one
 pub moved-next : {n : ℕ} {ws area work area′ work′ : List ℕ} → Moves n ws area work Moved.Moved area′ work′ → Next n ws (take n area) (take n area′)
 moved-next {n} {ws} {area} {work} {area′} {work′} p =
     let a = answered (nextDue n ws area (length work)) (p .refuses) (p .after) in
     rw (a .written, take-at (a .items) (drop (length (a .items)) area) n (a .right .allowed .rota .long)) (a .right)
 
+-- Ended: none comes after
 pub ended-ended : {n : ℕ} {ws area work area′ work′ : List ℕ} → Moves n ws area work Moved.Ended area′ work′ → Ended n ws (take n area)
 ended-ended {n} {ws} {area} {work} p = answered (nextDue n ws area (length work)) (p .refuses) (p .after) .right .1
 
@@ -44,21 +46,25 @@ goes-on n ws area [] g = ended-ended (g .3)
 goes-on n ws area (r ∷ rs) g =
     (rw (g .4) at (moved-next (g .3)), rw (g .4) at (goes-on n ws (g .1) rs (g .5)))
 
+-- and the first of them is Decide's
 pub run-in-order : (n : ℕ) (ws r : List ℕ) (rs : List (List ℕ)) → Run n ws r rs → InOrder n ws (r ∷ rs)
 run-in-order n ws r rs p = (rw (p .first) at (decided-first (p .decided)), rw (p .first) at (goes-on n ws (p .area′) rs (p .goesOn)))
 
 -- rotas that follow one another are allowed, come after the one before, and leave none out
 module _ (n : ℕ) (ws : List ℕ) where
+  -- they are allowed
   follow-allowed : (r : List ℕ) (rs : List (List ℕ)) → Follow n ws r rs → (s : List ℕ) → OneOf s rs → Allowed n ws s
   follow-allowed r [] f s m = absurd m
   follow-allowed r (t ∷ rs) f s (inl e) = rw e (f .0 .allowed)
   follow-allowed r (t ∷ rs) f s (inr m) = follow-allowed t rs (f .1) s m
 
+  -- they come after the one before
   follow-after : (r : List ℕ) (rs : List (List ℕ)) → Follow n ws r rs → (s : List ℕ) → OneOf s rs → Before r s
   follow-after r [] f s m = absurd m
   follow-after r (t ∷ rs) f s (inl e) = rw e (f .0 .after)
   follow-after r (t ∷ rs) f s (inr m) = before-trans r t s (f .0 .after) (follow-after t rs (f .1) s m)
 
+  -- they go up
   follow-ascending : (r : List ℕ) (rs : List (List ℕ)) → Follow n ws r rs → Ascending rs
   follow-ascending r [] f = tt
   follow-ascending r (t ∷ rs) f = (follow-after t rs (f .1), follow-ascending t rs (f .1))
@@ -67,11 +73,13 @@ module _ (n : ℕ) (ws : List ℕ) where
   from-on : (t s : List ℕ) → Allowed n ws t → Allowed n ws s → (Before s t → ⊥) → (s ≡ t) ⊎ Before t s
   from-on t s p q out = ⊎-elim (λ e. inl (sym e)) (⊎-elim (λ b. inr b) (λ b. absurd (out b))) (ordered t s (p .rota .long ∙ sym (q .rota .long)))
 
+  -- no allowed rota past the first is left out
   follow-all : (r : List ℕ) (rs : List (List ℕ)) → Follow n ws r rs → (s : List ℕ) → Allowed n ws s → Before r s → OneOf s rs
   follow-all r [] f s ok b = f s ok b
   follow-all r (t ∷ rs) f s ok b =
       ⊎-elim (λ e. inl e) (λ c. inr (follow-all t rs (f .1) s ok c)) (from-on t s (f .0 .allowed) ok (f .0 .least s ok b))
 
+  -- so rotas in order are every allowed rota, each once
   pub in-order-every : (r : List ℕ) (rs : List (List ℕ)) → InOrder n ws (r ∷ rs) → EveryRota n ws (r ∷ rs)
   in-order-every r rs p =
       record {

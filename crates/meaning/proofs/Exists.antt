@@ -4,19 +4,19 @@ use mathlib.Core.Logic.{⊎-elim}
 use mathlib.Core.List.{List, [], _∷_}
 use Prim.Native.Nat.{ℕ, zero, suc, _<_}
 use native.Mathlib.Omega.{arith}
-use native.Mathlib.Decide.{ℕ-discrete, decLt}
+use native.Mathlib.Decide.{ℕ-discrete}
 use lib.ListN.{length}
 use Rattle.meaning.specs.Chains.{Step, Chain, Reach, Clash, Shortest, Tied, Tie}
-use Rattle.meaning.specs.Codes.{late, early, opposite}
+use Rattle.meaning.specs.Codes.{late, early}
 use Rattle.meaning.specs.Order.{Before}
 use Rattle.meaning.specs.Rotas.{Forced}
-use Rattle.meaning.specs.Rules.{rules, left, right, InRange}
+use Rattle.meaning.specs.Rules.{rules, InRange}
 use Rattle.meaning.proofs.ChainLaws.{reach-refl, late-early-forces, early-late-forces}
 use Rattle.meaning.proofs.General.{below-or-from, least-of}
 use Rattle.meaning.proofs.OrderLaws.{before-uncons, before-nil}
 use Rattle.meaning.proofs.Reaching.{reach?}
 use Rattle.meaning.proofs.ShortestLaws.{step-unique}
-use Rattle.meaning.proofs.Tests.{or?, and?, somewhere?, Begins, begins-step, step-begins}
+use Rattle.meaning.proofs.Tests.{and?, somewhere?, Begins, begins-step, step-begins, begins?}
 use Rattle.meaning.proofs.TwoSat.{forced-differ}
 
 -- Ties
@@ -41,20 +41,13 @@ module _ (ws : List ℕ) (b : ℕ) where
   Has zero a = a ≡ b
   Has (suc l) a = (k : ℕ) × (k < rules ws) × Begins ws b a k (Has l)
 
+  -- whether there is one
   has? : (l a : ℕ) → Dec (Has l a)
   unfolding Has
   has? zero a = ℕ-discrete a b
-  has? (suc l) a = somewhere? (λ k. Begins ws b a k (Has l)) (rules ws) (λ k. begins? (λ c. has? l c) a k)
-    where
-      begins? : {P : ℕ → Type 0} → ((c : ℕ) → Dec (P c)) → (a k : ℕ) → Dec (Begins ws b a k P)
-      begins? d a k =
-          and? (decLt k (rules ws)) (or? (and? (ℕ-discrete (left ws k) (opposite a)) (d (right ws k))) (and? (ℕ-discrete (right ws k) (opposite a)) (d (left ws k))))
+  has? (suc l) a = somewhere? (λ k. Begins ws b a k (Has l)) (rules ws) (λ k. begins? ws b a k (has? l))
 
-  begins? : (l a k : ℕ) → Dec (Begins ws b a k (Has l))
-  begins? l a k =
-      and? (decLt k (rules ws))
-      (or? (and? (ℕ-discrete (left ws k) (opposite a)) (has? l (right ws k))) (and? (ℕ-discrete (right ws k) (opposite a)) (has? l (left ws k))))
-
+  -- a chain is one
   chain-has : (a : ℕ) (ks : List ℕ) (l : ℕ) → length ks ≡ l → Chain ws a ks b → Has l a
   unfolding Has
   chain-has a [] zero e p = p
@@ -67,10 +60,11 @@ module _ (ws : List ℕ) (b : ℕ) where
   First-of : ℕ → ℕ → Type 0
   First-of l a = (ks : List ℕ) × Chain ws a ks b × (length ks ≡ l) × ((js : List ℕ) → Chain ws a js b → length js ≡ l → Before js ks → ⊥)
 
+  -- where there is a chain of l rules, there is a first
   first-of : (l a : ℕ) → Has l a → First-of l a
   unfolding Has First-of
   first-of zero a p = ([], p, refl, (λ js q e h. before-nil js h))
-  first-of (suc l) a p = go (least-of (λ k. Begins ws b a k (Has l)) (begins? l a) (p .0) (p .2)) (λ c h. first-of l c h)
+  first-of (suc l) a p = go (least-of (λ k. Begins ws b a k (Has l)) (λ k. begins? ws b a k (has? l)) (p .0) (p .2)) (λ c h. first-of l c h)
     where
       go : ((k : ℕ) × Begins ws b a k (Has l) × ((j : ℕ) → j < k → Begins ws b a j (Has l) → ⊥)) → ((c : ℕ) → Has l c → First-of l c) → First-of (suc l) a
       go w rec =
@@ -87,6 +81,7 @@ module _ (ws : List ℕ) (b : ℕ) where
               (λ m. none js (subst (λ (x : ℕ). Chain ws x js b) (step-unique ws a k (q .0) c (rw (m .0) at (q .1)) st) (q .2)) (omega arith) (m .1))
               (before-uncons j js k ks h)
 
+  -- so where a reaches b there is a shortest chain, the first of its length
   pub shortest-exists : (a : ℕ) → Reach ws a b → (ks : List ℕ) × Shortest ws a b ks
   unfolding First-of
   shortest-exists a p =

@@ -23,6 +23,7 @@ abbrev pub Must : List ℕ → List ℕ → ℕ → Type 0
 Must ws r i = Reach ws (early i) (late i) ⊎ ((c : ℕ) × (choiceOf c < i) × True r c × Reach ws c (late i))
 
 module _ (n : ℕ) (ws r : List ℕ) where
+  -- and so it is
   pub must-late : (i : ℕ) → Must ws r i → (s : List ℕ) → Allowed n ws s → Agree i s r → getD s i 0 ≡ 1
   must-late i (inl p) s ok same = early-late-forces n ws i p s ok
   must-late i (inr p) s ok same =
@@ -37,6 +38,7 @@ module _ (n : ℕ) (ws r : List ℕ) where
       (λ l. omega (arith, b .less, rota .bits i, must-late i (musts i l (omega (arith, b .less, rota .bits i))) s ok (b .same)))
       (below-or-from i p)
 
+  -- an allowed rota of which each late choice must be late is the first
   pub first-by : Allowed n ws r → ((i : ℕ) → getD r i 0 ≡ 1 → Must ws r i) → First n ws r
   first-by ok musts =
       record { allowed = ok; least = λ s oks b. first-from 0 (ok .rota) (λ i l e. musts i e) s oks (λ j h. omega arith) b }

@@ -32,6 +32,7 @@ pub record Grown (ws : List ℕ) (B S : ℕ → Type 0) (v : ℕ) : Type 0 where
   pub origin : (d : ℕ) → S d → B d ⊎ From ws S v d
   pub decided : (u : ℕ) → u < v → S (early u) ⊎ (S (late u) × Why ws B S u)
 
+-- a closed and consistent base decides no choice yet
 pub grown-start : (ws : List ℕ) (B : ℕ → Type 0) → Closed ws B → Consistent B → Grown ws B B 0
 grown-start ws B cl co = record { closed = cl; consistent = co; base = λ d h. h; origin = λ d h. inl h; decided = λ u h. absurd (omega arith) }
 
@@ -47,9 +48,11 @@ grown-at ws B v cl co de =
     }
 
 module _ (ws : List ℕ) (B S : ℕ → Type 0) where
+  -- a larger set, and more choices
   from-more : (S′ : ℕ → Type 0) → ((d : ℕ) → S d → S′ d) → (v w d : ℕ) → v ≤ w → From ws S v d → From ws S′ w d
   from-more S′ more v w d h f = (f .0, omega (arith, f .1), more (f .0) (f .2), f .3)
 
+  -- a reason stays one in a larger set
   why-more : (S′ : ℕ → Type 0) → ((d : ℕ) → S d → S′ d) → (u : ℕ) → Why ws B S u → Why ws B S′ u
   why-more S′ more u (inl p) = inl p
   why-more S′ more u (inr (inl p)) = inr (inl p)
@@ -82,10 +85,12 @@ module _ (ws : List ℕ) (B S : ℕ → Type 0) where
             (λ l. let q : u ≡ v = omega arith in rw q now) (below-or-from u v);
       }
 
+  -- early, where late is not in the set and early does not lead to it
   pub grown-early : (v : ℕ) → Grown ws B S v → (S (late v) → ⊥) → (Reach ws (early v) (late v) → ⊥) → Grown ws B (With ws S (early v)) (suc v)
   grown-early v g out free =
       grown-add v (early v) g (choice-early v) (λ h. out (rw (opposite-early v) at h)) (λ p. free (rw (opposite-early v) at p)) (inl (inr (reach-refl ws (early v))))
 
+  -- late, where it must be
   pub grown-late : (v : ℕ) → Grown ws B S v → (S (early v) → ⊥) → (Reach ws (late v) (early v) → ⊥) →
       S (late v) ⊎ Reach ws (early v) (late v) → Grown ws B (With ws S (late v)) (suc v)
   grown-late v g out free why =
@@ -94,6 +99,7 @@ module _ (ws : List ℕ) (B S : ℕ → Type 0) where
 
 -- a choice that the set decides already
 module _ (ws : List ℕ) (B S : ℕ → Type 0) (v : ℕ) (g : Grown ws B S v) where
+  -- one choice more
   grown-more : S (early v) ⊎ (S (late v) × Why ws B S v) → Grown ws B S (suc v)
   grown-more now =
       record {
@@ -104,9 +110,11 @@ module _ (ws : List ℕ) (B S : ℕ → Type 0) (v : ℕ) (g : Grown ws B S v) w
         decided = below-suc {P = λ u. S (early u) ⊎ (S (late u) × Why ws B S u)} v (g .decided) now;
       }
 
+  -- early is in the set
   pub grown-has-early : S (early v) → Grown ws B S (suc v)
   grown-has-early h = grown-more (inl h)
 
+  -- late is in the set
   pub grown-has-late : S (late v) → Grown ws B S (suc v)
   grown-has-late h = grown-more (inr (h, inr (g .origin (late v) h)))
 
@@ -121,12 +129,15 @@ module _ (ws : List ℕ) (B S : ℕ → Type 0) (v : ℕ) (g : Grown ws B S v) w
 -- where all choices are decided: a rota that follows the set
 module _ (n : ℕ) (ws : List ℕ) (B S : ℕ → Type 0) (g : Grown ws B S n) (range : InRange n ws) (r : List ℕ) (rota : Rota n r)
     (follows : Follows n S r) where
+  -- it is allowed
   pub grown-allowed : Allowed n ws r
   grown-allowed = follows-allowed ws S (g .closed) n r range (g .consistent) rota follows
 
+  -- the codes of the set are true in it
   pub grown-true : (c : ℕ) → c < 2 * n → S c → True r c
   grown-true c h i = ⊎-elim (λ t. t) (λ u. absurd (g .consistent c i (follows (opposite c) (opposite-below n c h) u))) (true-or-opposite n r rota c)
 
+  -- a reason why u is late is one why it must be, or the base has it
   must-of : (u : ℕ) → u < n → Why ws B S u → Must ws r u ⊎ B (late u)
   must-of u h (inl p) = inl (inl p)
   must-of u h (inr (inl b)) = inr b
@@ -151,11 +162,13 @@ module _ (n : ℕ) (ws : List ℕ) (range : InRange n ws) (reach? : (c d : ℕ) 
   unfoldable pub Made : Type 0
   Made = (r : List ℕ) × Allowed n ws r × ((c : ℕ) → c < 2 * n → B c → True r c) × ((u : ℕ) → getD r u 0 ≡ 1 → Must ws r u ⊎ B (late u))
 
+  -- a code that says what the set decides is in the set
   follow : (S : ℕ → Type 0) (c : ℕ) (d : Dec (S (late (choiceOf c)))) → S (early (choiceOf c)) ⊎ S (late (choiceOf c)) → ite d 1 0 ≡ valueOf c → S c
   follow S c (yes h) t e = subst S (omega arith) h
   follow S c (no h) (inl t) e = subst S (omega arith) t
   follow S c (no h) (inr t) e = absurd (h t)
 
+  -- a set that decides all choices makes a rota
   make : (S : ℕ → Type 0) → ((c : ℕ) → Dec (S c)) → Grown ws B S n → Made
   unfolding Made
   make S has g = (r, grown-allowed n ws B S g range r rota follows, (λ c h b. grown-true n ws B S g range r rota follows c h (g .base c b)), grown-must n ws B S g range r rota follows)
@@ -178,6 +191,7 @@ module _ (n : ℕ) (ws : List ℕ) (range : InRange n ws) (reach? : (c d : ℕ) 
           let v = choiceOf c in
           follow S c (has (late v)) (⊎-elim (λ i. inl i) (λ i. inr (i .0)) (g .decided v (choice-below n c h))) (sym (getD-build n f v (choice-below n c h)) ∙ t)
 
+  -- one choice more is decided, by a set that is decided too
   grow : (v : ℕ) (S : ℕ → Type 0) → v < n → ((c : ℕ) → Dec (S c)) → Grown ws B S v →
       ((S′ : ℕ → Type 0) → ((c : ℕ) → Dec (S′ c)) → Grown ws B S′ (suc v) → Made) → Made
   grow v S h has g on = go (has (late v)) (reach? (early v) (late v))
@@ -197,18 +211,21 @@ module _ (n : ℕ) (ws : List ℕ) (range : InRange n ws) (reach? : (c d : ℕ) 
           (grown-late ws B S v g (λ e. l (closed-reach ws S (g .closed) (early v) (late v) p e)) (λ q. free v h (q, p)) (inr p))
       go (no l) (no p) = on (With ws S (early v)) (has-with (early v)) (grown-early ws B S v g l p)
 
+  -- the last k choices are
   pub walk : (k v : ℕ) (S : ℕ → Type 0) → v + k ≡ n → ((c : ℕ) → Dec (S c)) → Grown ws B S v → Made
   walk zero v S e has g = make S has (subst (Grown ws B S) (omega arith) g)
   walk (suc k) v S e has g = grow v S (omega arith) has g (λ S′ has′ g′. walk k (suc v) S′ (omega arith) has′ g′)
 
 -- where reaching is decided and no choice clashes: there is a first allowed rota, and an allowed one for each code that does not lead to its opposite
 module _ (n : ℕ) (ws : List ℕ) (range : InRange n ws) (reach? : (c d : ℕ) → Dec (Reach ws c d)) (free : (v : ℕ) → v < n → Clash ws v → ⊥) where
+  -- the first rota
   pub first-exists : (r : List ℕ) × First n ws r
   unfolding Made
   first-exists =
       let w = walk n ws range reach? free (λ c. ⊥) n 0 (λ c. ⊥) (omega arith) (λ c. no (λ h. h)) (grown-start ws (λ c. ⊥) (λ a k b s h. h) (λ c h k. h)) in
       (w .0, first-by n ws (w .0) (w .1) (λ u e. ⊎-elim (λ m. m) (λ b. absurd b) (w .3 u e)))
 
+  -- an allowed rota in which the code is true
   pub true-exists : (c : ℕ) → c < 2 * n → (Reach ws c (opposite c) → ⊥) → (r : List ℕ) × Allowed n ws r × True r c
   unfolding Made
   true-exists c h out =

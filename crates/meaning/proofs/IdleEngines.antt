@@ -21,7 +21,8 @@ use Rattle.meaning.specs.Sizes.{rotaNeeds, chainsNeed, tiesNeed, workNee
 use Rattle.meaning.specs.Table.{Right, caseB, caseC, caseD, caseF, caseG, caseI}
 use Rattle.meaning.proofs.EveryRotaOnce.{answered}
 use Rattle.meaning.proofs.Marked.{marked}
-use Rattle.meaning.proofs.Once.{not-refused, decide-once, listed-once, clash-once, next-once}
+use Rattle.meaning.proofs.Once.{decide-once, listed-once, clash-once, next-once}
+use Rattle.meaning.proofs.RefusalLaws.{not-refused}
 use Rattle.meaning.proofs.TwoSat.{lowest}
 use Rattle.meaning.proofs.Unique.{tie-unique}
 
@@ -31,6 +32,7 @@ pub record Left (A : Type 0) : Type 0 where
   pub area : List ℕ
   pub work : List ℕ
 
+-- an engine
 abbrev pub Engine : Type 0 → Type 0
 Engine A = ℕ → List ℕ → List ℕ → List ℕ → Left A
 

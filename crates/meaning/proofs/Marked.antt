@@ -9,7 +9,7 @@ use Rattle.meaning.specs.Refusals.{Due, none, refused, listDue}
 use Rattle.meaning.specs.Runs.{Follow, InOrder}
 use Rattle.meaning.specs.Table.{Answer, possible, impossible, refusal, Asked, leastDue, Right, Case, cases, Every}
 use Rattle.meaning.proofs.ChainLaws.{clash-impossible}
-use Rattle.meaning.proofs.Once.{not-refused}
+use Rattle.meaning.proofs.RefusalLaws.{not-refused}
 use Rattle.meaning.proofs.Reaching.{reach?}
 use Rattle.meaning.proofs.Tests.{shown, map?, and?, not?, below?, first?, next?, ended?, forced?, shortest?, lowest?, tie?}
 use Rattle.meaning.proofs.TwoSat.{clash?}
@@ -19,9 +19,11 @@ abbrev none? : (d : Due) → Dec (d ≡ Due.none)
 none? Due.none = yes refl
 none? (refused k p) = no (λ e. not-refused k p (sym e))
 
+-- a refusal tells its number and place
 same-refusal : (k p number place : ℕ) → refused k p ≡ refused number place → (k ≡ number) × (p ≡ place)
 same-refusal k p number place e = ((cc), (cc))
 
+-- whether it is this refusal
 abbrev refused? : (d : Due) (number place : ℕ) → Dec (d ≡ refused number place)
 refused? Due.none number place = no (not-refused number place)
 refused? (refused k p) number place =
@@ -32,10 +34,12 @@ abbrev follow? : (n : ℕ) (ws r : List ℕ) (rs : List (List ℕ)) → Dec (Fol
 follow? n ws r [] = ended? n ws r
 follow? n ws r (s ∷ rs) = and? (next? n ws r s) (follow? n ws s rs)
 
+-- from the first on
 abbrev inOrder? : (n : ℕ) (ws : List ℕ) (rs : List (List ℕ)) → Dec (InOrder n ws rs)
 inOrder? n ws [] = no (λ h. h)
 inOrder? n ws (r ∷ rs) = and? (first? n ws r) (follow? n ws r rs)
 
+-- Next, asked singly
 abbrev asked? : (n : ℕ) (ws : List ℕ) (qs : List (List ℕ × List ℕ)) → Dec (Asked n ws qs)
 asked? n ws [] = yes tt
 asked? n ws (q ∷ qs) = and? (next? n ws (q .0) (q .1)) (asked? n ws qs)
@@ -53,6 +57,7 @@ right? n ws (impossible v ks js) =
     (and? (none? (leastDue n ws)) (and? (lowest? ws v) (and? (shortest? ws (early v) (late v) ks) (shortest? ws (late v) (early v) js))))
 right? n ws (refusal number place) = refused? (leastDue n ws) number place
 
+-- whether all cases are
 abbrev every? : (cs : List Case) → Dec (Every cs)
 every? [] = yes tt
 every? (c ∷ cs) = and? (right? (c .n) (c .ws) (c .answer)) (every? cs)

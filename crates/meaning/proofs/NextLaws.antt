@@ -18,6 +18,7 @@ use Rattle.meaning.proofs.Reaching.{reach?}
 use Rattle.meaning.proofs.Sets.{Spread, spread-closed, spread-consistent}
 use Rattle.meaning.proofs.Tests.{map?, or?, and?, somewhere?}
 
+-- how much less
 less-by : (a b : ℕ) → a ≤ b → (k : ℕ) × (a + k ≡ b)
 less-by a b h = (b - a, omega arith)
 
@@ -39,14 +40,17 @@ module _ (n : ℕ) (ws r : List ℕ) where
   abbrev pub NoneAt : ℕ → Type 0
   NoneAt j = (t : List ℕ) → Allowed n ws t → Agree j r t → getD r j 0 < getD t j 0 → ⊥
 
+  -- because the choice cannot be raised
   pub stuck-none : (j : ℕ) → Stuck ws r j → NoneAt j
   stuck-none j s t ok same l =
       let kept : (c : ℕ) → Kept r j c → True t c = kept-true j t same (omega (arith, l, ok .rota .bits j)) in
       never-both t (s .1) (kept (s .1) (s .3)) (reach-sound n ws t ok (s .0) (opposite (s .1)) (s .4) (kept (s .0) (s .2)))
 
+  -- because it is late already
   pub late-none : (j : ℕ) → getD r j 0 ≡ 1 → NoneAt j
   late-none j e t ok same l = omega (arith, l, ok .rota .bits j)
 
+  -- because there is no such choice
   pub past-none : (j : ℕ) → n ≤ j → NoneAt j
   past-none j h t ok same l = omega (arith, l, List·getD-eq-default t 0 {n = j} (rw (ok .rota .long) h))
 
@@ -56,18 +60,23 @@ module _ (n : ℕ) (ws r : List ℕ) where
 
   -- the set that all choices up to j start from
   module _ (rota : Rota n r) (j : ℕ) where
+    -- all that the codes kept lead to
     abbrev Base : ℕ → Type 0
     Base d = Spread ws (Kept r j) d
 
+    -- it has the codes of the choices before j as r has them: early
     base-early : (u : ℕ) → u < j → getD r u 0 ≡ 0 → Base (early u)
     base-early u h e = (early u, inl (omega arith, early-true r u e), reach-refl ws (early u))
 
+    -- late
     base-late : (u : ℕ) → u < j → getD r u 0 ≡ 1 → Base (late u)
     base-late u h e = (late u, inl (omega arith, late-true r u e), reach-refl ws (late u))
 
+    -- a value is 0 or 1
     early-or-late : (u : ℕ) → (getD r u 0 ≡ 0) ⊎ (getD r u 0 ≡ 1)
     early-or-late u = elim (ℕ-discrete (getD r u 0) 0) [ yes e ↦ inl e | no e ↦ inr (omega (arith, rota .bits u)) ]
 
+    -- it is consistent where j can be raised
     pub kept-grown : (Stuck ws r j → ⊥) → Grown ws Base Base (suc j)
     kept-grown free =
         grown-at ws Base (suc j) (spread-closed ws (Kept r j)) (spread-consistent ws (Kept r j) (λ c d p q h. free (c, d, p, q, h)))
@@ -98,24 +107,29 @@ module _ (n : ℕ) (ws r : List ℕ) where
             (λ b. inr (b .0, before i (b .0) l (b .1), base (b .0) (omega (arith, before (suc j) (b .0) (omega arith) (b .1))) (b .0, b .1, reach-refl ws (b .0)), b .2))
             (musts i e)
 
+    -- whether a code is kept
     kept? : (c : ℕ) → Dec (Kept r j c)
     kept? c = or? (and? (decLt (choiceOf c) j) (ℕ-discrete (getD r (choiceOf c) 0) (valueOf c))) (ℕ-discrete c (late j))
 
+    -- the codes kept are those of the first choices
     kept-below : (c : ℕ) → Kept r j c → c < 2 * suc j
     kept-below c (inl k) = omega (arith, k .0)
     kept-below c (inr e) = omega arith
 
+    -- whether the base has a code
     base? : (d : ℕ) → Dec (Base d)
     base? d =
         map? (λ p. (p .0, p .2 .0, p .2 .1)) (λ p. (p .0, kept-below (p .0) (p .1), (p .1, p .2)))
         (somewhere? (λ c. Kept r j c × Reach ws c d) (2 * suc j) (λ c. and? (kept? c) (reach? ws c d)))
 
+    -- whether choice j cannot be raised
     stuck? : Dec (Stuck ws r j)
     stuck? =
         map? (λ p. (p .2 .1 .0, p .0, p .2 .1 .1, p .2 .0, p .2 .1 .2)) (λ p. (p .1, kept-below (p .1) (p .3), (p .3, (p .0, p .2, p .4))))
         (somewhere? (λ d. Kept r j d × Base (opposite d)) (2 * suc j) (λ d. and? (kept? d) (base? (opposite d))))
 
   module _ (range : InRange n ws) (rota : Rota n r) (possible : (v : ℕ) → v < n → Clash ws v → ⊥) where
+    -- raised at j, the next rota
     raised : (j : ℕ) → j < n → ((i : ℕ) → j < i → NoneAt i) → getD r j 0 ≡ 0 → (Stuck ws r j → ⊥) → (s : List ℕ) × Next n ws r s
     unfolding Made
     raised j h none e free =
@@ -123,6 +137,7 @@ module _ (n : ℕ) (ws r : List ℕ) where
         let w = walk n ws range (reach? ws) possible (Base rota j) (k .0) (suc j) (Base rota j) (k .1) (base? rota j) (kept-grown rota j free) in
         (w .0, made-next rota j e h none (w .0) (w .1) (w .2) (w .3))
 
+    -- at j there is the next rota, or none
     at : (j : ℕ) → j < n → ((i : ℕ) → j < i → NoneAt i) → ((s : List ℕ) × Next n ws r s) ⊎ NoneAt j
     at j h none = go (early-or-late rota j j) (stuck? rota j)
       where
@@ -131,6 +146,7 @@ module _ (n : ℕ) (ws r : List ℕ) where
         go (inl e) (yes s) = inr (stuck-none j s)
         go (inl e) (no free) = inl (raised j h none e free)
 
+    -- so from the last choice down
     down : (k : ℕ) → k ≤ n → ((i : ℕ) → k ≤ i → NoneAt i) → ((s : List ℕ) × Next n ws r s) ⊎ Ended n ws r
     down zero h none = inr (none-ended (λ j. none j (omega arith)))
     down (suc j) h none = go (down j (omega arith)) (at j h none)
@@ -140,5 +156,6 @@ module _ (n : ℕ) (ws r : List ℕ) where
         go rec (inl s) = inl s
         go rec (inr here) = rec (λ i l. ⊎-elim (λ m. none i m) (λ m. subst NoneAt (omega arith) here) (below-or-from j i))
 
+    -- there is a next rota, or the rotas have ended
     pub next-or-ended : ((s : List ℕ) × Next n ws r s) ⊎ Ended n ws r
     next-or-ended = down n (omega arith) past-none

@@ -19,6 +19,7 @@ use Rattle.meaning.specs.Rules.{right}
 use Rattle.meaning.specs.Sizes.{rotaNeeds, chainsNeed, tiesNeed, over}
 use Rattle.meaning.proofs.ChainLaws.{clash-impossible}
 use Rattle.meaning.proofs.RefusalLaws.{named, due-named}
+pub use Rattle.meaning.proofs.RefusalLaws.{not-refused}
 use Rattle.meaning.proofs.TwoSat.{lowest}
 use Rattle.meaning.proofs.Unique.{first-unique, next-unique, next-not-ended, forced-unique, shortest-unique, lowest-unique, tie-unique}
 
@@ -29,6 +30,7 @@ Same a area₁ work₁ b area₂ work₂ = (a ≡ b) × (area₁ ≡ area₂) ×
 -- The form that all calls share: what a call says fixes its answer and its items, and a refusal fixes the answer.
 module _ {A : Type 0} (refusal : A → Due) (says : A → List ℕ → Type 0) (once : (a b : A) (xs ys : List ℕ) → says a xs → says b ys → (a ≡ b) × (xs ≡ ys))
     (refuses : (a b : A) (number place : ℕ) → refusal a ≡ refused number place → refusal b ≡ refused number place → a ≡ b) (n : ℕ) (ws area work : List ℕ) where
+  -- what is due decides
   after-once : (due : Due) (a b : A) (area₁ work₁ area₂ work₂ : List ℕ) → refusal a ≡ due → refusal b ≡ due →
       After due (says a) n ws area work area₁ work₁ → After due (says b) n ws area work area₂ work₂ → Same a area₁ work₁ b area₂ work₂
   after-once none a b area₁ work₁ area₂ work₂ e f p q =
@@ -37,17 +39,15 @@ module _ {A : Type 0} (refusal : A → Due) (says : A → List ℕ → Type 0) (
   after-once (refused number place) a b area₁ work₁ area₂ work₂ e f p q =
       (refuses a b number place e f, p .areaStays ∙ sym (q .areaStays), p .workStays ∙ sym (q .workStays))
 
+  -- so two outcomes of a call that keeps its promise coincide
   pub keeps-once : (due : Due) (a b : A) (area₁ work₁ area₂ work₂ : List ℕ) → Keeps refusal says due n ws area work a area₁ work₁ →
       Keeps refusal says due n ws area work b area₂ work₂ → Same a area₁ work₁ b area₂ work₂
   keeps-once due a b area₁ work₁ area₂ work₂ p q =
       after-once due a b area₁ work₁ area₂ work₂ (p .refuses) (q .refuses) (p .after) (q .after)
 
--- nothing is due, or a refusal, never both
-pub not-refused : (number place : ℕ) → Due.none ≡ refused number place → ⊥
-not-refused number place e = let z : _≡_ {A = ℕ} 0 1 = cc in omega arith
-
 -- Decide
 
+-- a refusal tells the answer
 decided-refuses : (a : Decided) (number place : ℕ) → decidedRefusal a ≡ refused number place → a ≡ Decided.Refused (named number place)
 decided-refuses Decided.Possible number place e = absurd (not-refused number place e)
 decided-refuses (Decided.Impossible v) number place e = absurd (not-refused number place e)
@@ -58,6 +58,7 @@ same-choice : (u v : Choice) → u .0 ≡ v .0 → u ≡ v
 same-choice u v e = λ i. record { 0 = e i }
 
 module _ (n : ℕ) (ws : List ℕ) where
+  -- what the answer says tells the answer and the rota
   pub decide-once : (a b : Decided) (xs ys : List ℕ) → DecideSays n ws a xs → DecideSays n ws b ys → (a ≡ b) × (xs ≡ ys)
   decide-once Decided.Possible Decided.Possible xs ys p q = (refl, first-unique n ws xs ys p q)
   decide-once Decided.Possible (Decided.Impossible v) xs ys p q = absurd (clash-impossible n ws (v .0) (q .0 .clash) xs (p .allowed))
@@ -68,6 +69,7 @@ module _ (n : ℕ) (ws : List ℕ) where
   decide-once (Decided.Impossible v) (Decided.Refused r) xs ys p q = absurd q
   decide-once (Decided.Refused r) b xs ys p q = absurd p
 
+  -- so Decide has one outcome
   pub decides-once : (area work : List ℕ) (a b : Decided) (area₁ work₁ area₂ work₂ : List ℕ) → Decides n ws area work a area₁ work₁ →
       Decides n ws area work b area₂ work₂ → Same a area₁ work₁ b area₂ work₂
   decides-once area work =
@@ -77,12 +79,14 @@ module _ (n : ℕ) (ws : List ℕ) where
 
 -- Forced and Ties
 
+-- a refusal tells the answer
 listed-refuses : (a : Listed) (number place : ℕ) → listedRefusal a ≡ refused number place → a ≡ Listed.Refused (named number place)
 listed-refuses Listed.Done number place e = absurd (not-refused number place e)
 listed-refuses Listed.Impossible number place e = absurd (not-refused number place e)
 listed-refuses (Listed.Refused r) number place e = ap Listed.Refused (due-named r number place e)
 
 module _ (n : ℕ) (ws : List ℕ) (Item : ℕ → ℕ → Type 0) (unique : (r : List ℕ) → Allowed n ws r → (v x y : ℕ) → Item v x → Item v y → x ≡ y) where
+  -- what the answer says tells the answer and the list
   pub listed-once : (a b : Listed) (xs ys : List ℕ) → ListedSays n ws Item a xs → ListedSays n ws Item b ys → (a ≡ b) × (xs ≡ ys)
   listed-once Listed.Done Listed.Done xs ys p q = (
     refl,
@@ -96,6 +100,7 @@ module _ (n : ℕ) (ws : List ℕ) (Item : ℕ → ℕ → Type 0) (unique : (r 
   listed-once Listed.Impossible (Listed.Refused r) xs ys p q = absurd q
   listed-once (Listed.Refused r) b xs ys p q = absurd p
 
+  -- so a call that answers a list has one outcome
   each-once : (area work : List ℕ) (due : Due) (a b : Listed) (area₁ work₁ area₂ work₂ : List ℕ) →
       Keeps listedRefusal (ListedSays n ws Item) due n ws area work a area₁ work₁ → Keeps listedRefusal (ListedSays n ws Item) due n ws area work b area₂ work₂ →
       Same a area₁ work₁ b area₂ work₂
@@ -103,11 +108,13 @@ module _ (n : ℕ) (ws : List ℕ) (Item : ℕ → ℕ → Type 0) (unique : (r 
       keeps-once listedRefusal (ListedSays n ws Item) listed-once (λ a b k p e f. listed-refuses a k p e ∙ sym (listed-refuses b k p f)) n ws area work
 
 module _ (n : ℕ) (ws : List ℕ) where
+  -- Forced
   pub forces-once : (area work : List ℕ) (a b : Listed) (area₁ work₁ area₂ work₂ : List ℕ) → Forces n ws area work a area₁ work₁ →
       Forces n ws area work b area₂ work₂ → Same a area₁ work₁ b area₂ work₂
   forces-once area work =
       each-once n ws (Forced n ws) (λ r ok v x y p q. forced-unique n ws v x y r ok p q) area work (listDue n ws (length area) (rotaNeeds n) (length work))
 
+  -- Ties
   pub ties-once : (area work : List ℕ) (a b : Listed) (area₁ work₁ area₂ work₂ : List ℕ) → TiesUp n ws area work a area₁ work₁ →
       TiesUp n ws area work b area₂ work₂ → Same a area₁ work₁ b area₂ work₂
   ties-once area work =
@@ -115,12 +122,14 @@ module _ (n : ℕ) (ws : List ℕ) where
 
 -- Clash
 
+-- a refusal tells the answer
 clashed-refuses : (a : Clashed) (number place : ℕ) → clashedRefusal a ≡ refused number place → a ≡ Clashed.Refused (named number place)
 clashed-refuses (Clashed.Chains v i j) number place e = absurd (not-refused number place e)
 clashed-refuses Clashed.Possible number place e = absurd (not-refused number place e)
 clashed-refuses (Clashed.Refused r) number place e = ap Clashed.Refused (due-named r number place e)
 
 module _ (n : ℕ) (ws : List ℕ) where
+  -- the choice that clashes tells its chains
   chains-once : (u v : Choice) (i j k l : ℕ) (xs ys : List ℕ) → BothChains ws (u .0) i j xs → BothChains ws (v .0) k l ys →
       (Clashed.Chains u i j ≡ Clashed.Chains v k l) × (xs ≡ ys)
   chains-once u v i j k l xs ys p q =
@@ -132,6 +141,7 @@ module _ (n : ℕ) (ws : List ℕ) where
       let m : j ≡ l = p .backLength ∙ ap length g ∙ sym (q .backLength) in
       ((cc), cc (p .words, q .words))
 
+  -- what the answer says tells the answer and the chains
   pub clash-once : (a b : Clashed) (xs ys : List ℕ) → ClashSays n ws a xs → ClashSays n ws b ys → (a ≡ b) × (xs ≡ ys)
   clash-once (Clashed.Chains u i j) (Clashed.Chains v k l) xs ys p q = chains-once u v i j k l xs ys p q
   clash-once (Clashed.Chains u i j) Clashed.Possible xs ys p q = absurd (clash-impossible n ws (u .0) (p .lowest .clash) (q .0 .0) (q .0 .1))
@@ -141,6 +151,7 @@ module _ (n : ℕ) (ws : List ℕ) where
   clash-once Clashed.Possible (Clashed.Refused r) xs ys p q = absurd q
   clash-once (Clashed.Refused r) b xs ys p q = absurd p
 
+  -- so Clash has one outcome
   pub clashes-once : (area work : List ℕ) (a b : Clashed) (area₁ work₁ area₂ work₂ : List ℕ) → Clashes n ws area work a area₁ work₁ →
       Clashes n ws area work b area₂ work₂ → Same a area₁ work₁ b area₂ work₂
   clashes-once area work =
@@ -149,6 +160,7 @@ module _ (n : ℕ) (ws : List ℕ) where
 
 -- Next
 
+-- a refusal tells the answer
 moved-refuses : (a : Moved) (number place : ℕ) → movedRefusal a ≡ refused number place → a ≡ Moved.Refused (named number place)
 moved-refuses Moved.Moved number place e = absurd (not-refused number place e)
 moved-refuses Moved.Ended number place e = absurd (not-refused number place e)
@@ -156,6 +168,7 @@ moved-refuses Moved.Impossible number place e = absurd (not-refused number place
 moved-refuses (Moved.Refused r) number place e = ap Moved.Refused (due-named r number place e)
 
 module _ (n : ℕ) (ws : List ℕ) where
+  -- what the answer says tells the answer and the rota
   pub next-once : (rota : List ℕ) (a b : Moved) (xs ys : List ℕ) → NextSays n ws rota a xs → NextSays n ws rota b ys → (a ≡ b) × (xs ≡ ys)
   next-once rota Moved.Moved Moved.Moved xs ys p q = (refl, next-unique n ws rota xs ys p q)
   next-once rota Moved.Moved Moved.Ended xs ys p q = absurd (next-not-ended n ws rota xs p (q .1))
@@ -171,6 +184,7 @@ module _ (n : ℕ) (ws : List ℕ) where
   next-once rota Moved.Impossible (Moved.Refused r) xs ys p q = absurd q
   next-once rota (Moved.Refused r) b xs ys p q = absurd p
 
+  -- so Next has one outcome
   pub moves-once : (area work : List ℕ) (a b : Moved) (area₁ work₁ area₂ work₂ : List ℕ) → Moves n ws area work a area₁ work₁ →
       Moves n ws area work b area₂ work₂ → Same a area₁ work₁ b area₂ work₂
   moves-once area work =

@@ -84,6 +84,7 @@ before-pad y s h =
     let b = before-join 0 [] y s h in
     record { at = b .at; same = λ j l. sym (zeros j) ∙ b .same j l; less = rw (zeros (b .at)) at (b .less) }
 
+-- and the other way round
 pub before-unpad : (y : ℕ) (s : List ℕ) → Before [] (y ∷ s) → (0 < y) ⊎ ((0 ≡ y) × Before [] s)
 before-unpad y s b =
     before-uncons 0 [] y s (record { at = b .at; same = λ j l. zeros j ∙ b .same j l; less = rw (zeros (b .at)) (b .less) })

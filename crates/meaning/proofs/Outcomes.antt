@@ -23,15 +23,10 @@ use Rattle.meaning.proofs.ChainLaws.{clash-impossible}
 use Rattle.meaning.proofs.Exists.{tie-exists, forced-exists, shortest-exists}
 use Rattle.meaning.proofs.General.{below-or-from}
 use Rattle.meaning.proofs.NextLaws.{next-or-ended}
-use Rattle.meaning.proofs.Once.{not-refused}
-use Rattle.meaning.proofs.RefusalLaws.{Accepted, accepted, next-accepted, named}
+use Rattle.meaning.proofs.RefusalLaws.{not-refused, Accepted, accepted, next-accepted, named, AllNamed}
 use Rattle.meaning.proofs.TwoSat.{lowest, possible-or-clash, possible-free}
 
--- the number of each check is that of a refusal
-abbrev AllNamed : List Check → Type 0
-AllNamed [] = Unit {0}
-AllNamed (check applies number place ∷ cs) = (asDue (named number place) ≡ refused number place) × AllNamed cs
-
+-- so what is due is a refusal
 due-is-named : (cs : List Check) → AllNamed cs → (number place : ℕ) → firstOf cs ≡ refused number place → asDue (named number place) ≡ refused number place
 due-is-named [] h number place e = absurd (not-refused number place e)
 due-is-named (check true k p ∷ cs) h number place e =
@@ -40,10 +35,12 @@ due-is-named (check true k p ∷ cs) h number place e =
     rw (f, g) at (h .0)
 due-is-named (check false k p ∷ cs) h number place e = due-is-named cs (h .1) number place e
 
+-- of a list
 list-named : (n : ℕ) (ws : List ℕ) (area needs work number place : ℕ) → listDue n ws area needs work ≡ refused number place → asDue (named number place) ≡ refused number place
 unfolding listDue
 list-named n ws area needs work = due-is-named (listChecks n ws area needs work) (refl, (refl, (refl, (refl, (refl, (refl, tt))))))
 
+-- and of a rota
 next-named : (n : ℕ) (ws rota : List ℕ) (work number place : ℕ) → nextDue n ws rota work ≡ refused number place → asDue (named number place) ≡ refused number place
 unfolding nextDue
 next-named n ws rota work = due-is-named (nextChecks n ws rota work) (refl, (refl, (refl, (refl, (refl, (refl, (refl, tt)))))))
@@ -57,6 +54,7 @@ abbrev pub Outcome : (A : Type 0) → (A → List ℕ → List ℕ → Type 0) �
 Outcome A promise = (a : A) × (area′ : List ℕ) × (work′ : List ℕ) × promise a area′ work′
 
 module _ {A : Type 0} (refusal : A → Due) (says : A → List ℕ → Type 0) (refuse : Refusal → A) (carries : (r : Refusal) → refusal (refuse r) ≡ asDue r) (n : ℕ) (ws area work : List ℕ) where
+  -- what is due decides
   keeps-exists : (due : Due) → ((number place : ℕ) → due ≡ refused number place → asDue (named number place) ≡ refused number place) →
       (due ≡ Due.none → Saying refusal says) → Outcome A (Keeps refusal says due n ws area work)
   keeps-exists Due.none names answer =
@@ -78,6 +76,7 @@ each-exists Item (suc n) f =
     go x rest (suc v) h = rest .1 .each v (omega arith)
 
 module _ (n : ℕ) (ws area work : List ℕ) where
+  -- Decide
   pub decides-exists : Outcome Decided (Decides n ws area work)
   decides-exists =
       keeps-exists decidedRefusal (DecideSays n ws) Decided.Refused (λ r. refl) n ws area work (listDue n ws (length area) (rotaNeeds n) (length work))
@@ -85,6 +84,7 @@ module _ (n : ℕ) (ws area work : List ℕ) where
       (λ e. ⊎-elim (λ f. (Decided.Possible, refl, (f .0, f .1))) (λ c. (Decided.Impossible (record { 0 = c .0 }), refl, ([], (c .2, refl))))
       (possible-or-clash n ws (accepted n ws (length area) (rotaNeeds n) (length work) e .range)))
 
+  -- a call that answers a list
   listed-exists : (Item : ℕ → ℕ → Type 0) (needs : ℕ) → (InRange n ws → ((v : ℕ) → v < n → Clash ws v → ⊥) → (v : ℕ) → v < n → (x : ℕ) × Item v x) →
       Outcome Listed (Keeps listedRefusal (ListedSays n ws Item) (listDue n ws (length area) needs (length work)) n ws area work)
   listed-exists Item needs item =
@@ -95,12 +95,15 @@ module _ (n : ℕ) (ws area work : List ℕ) where
       (λ c. (Listed.Impossible, refl, ([], (clash-impossible n ws (c .0) (c .2 .clash), refl))))
       (possible-or-clash n ws range))
 
+  -- Forced
   pub forces-exists : Outcome Listed (Forces n ws area work)
   forces-exists = listed-exists (Forced n ws) (rotaNeeds n) (forced-exists n ws)
 
+  -- Ties
   pub ties-exists : Outcome Listed (TiesUp n ws area work)
   ties-exists = listed-exists (Tie ws) (tiesNeed n) (λ range free v h. tie-exists ws v)
 
+  -- Clash
   pub clashes-exists : Outcome Clashed (Clashes n ws area work)
   clashes-exists =
       keeps-exists clashedRefusal (ClashSays n ws) Clashed.Refused (λ r. refl) n ws area work (listDue n ws (length area) (chainsNeed n) (length work))
@@ -117,6 +120,7 @@ module _ (n : ℕ) (ws area work : List ℕ) where
             (there .0 ++ back .0, record { lowest = l; there = there .0; back = back .0; lateEarly = there .1; earlyLate = back .1; thereLength = refl; backLength = refl; words = refl }),
           )
 
+  -- Next
   pub moves-exists : Outcome Moved (Moves n ws area work)
   moves-exists =
       keeps-exists movedRefusal (NextSays n ws (take n area)) Moved.Refused (λ r. refl) n ws area work (nextDue n ws area (length work))

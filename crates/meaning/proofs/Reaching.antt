@@ -26,6 +26,7 @@ module _ (ws : List ℕ) where
   Way zero c d = c ≡ d
   Way (suc e) c d = Way e c d ⊎ (Way e c (fro e) × Way e (to e) d)
 
+  -- whether it does is decided
   unfoldable pub way? : (e c d : ℕ) → Dec (Way e c d)
   unfolding Way fro to ℕ-discrete opposite
   way? zero c d = ℕ-discrete c d
@@ -38,11 +39,13 @@ module _ (ws : List ℕ) where
       dec (no a) (yes b) (no c) = no (⊎-elim a (λ p. c (p .1)))
       dec (no a) (no b) c = no (⊎-elim a (λ p. b (p .0)))
 
+  -- by no edge
   pub way-refl : (e c : ℕ) → Way e c c
   unfolding Way
   way-refl zero c = refl
   way-refl (suc e) c = inl (way-refl e c)
 
+  -- ways join
   pub way-trans : (e c d f : ℕ) → Way e c d → Way e d f → Way e c f
   unfolding Way
   way-trans zero c d f p q = p ∙ q
@@ -51,12 +54,14 @@ module _ (ws : List ℕ) where
   way-trans (suc e) c d f (inr p) (inl q) = inr (p .0, way-trans e (to e) d f (p .1) q)
   way-trans (suc e) c d f (inr p) (inr q) = inr (p .0, q .1)
 
+  -- each edge is a way
   pub way-edge : (e i : ℕ) → i < e → Way e (fro i) (to i)
   unfolding Way
   way-edge zero i h = absurd (omega arith)
   way-edge (suc e) i h =
       below-suc {P = λ i. Way (suc e) (fro i) (to i)} e (λ i h. inl (way-edge e i h)) (inr (way-refl e (fro e), way-refl e (to e))) i h
 
+  -- an edge is a step
   pub edge-step : (e : ℕ) → e < 2 * rules ws → Step ws (fro e) (e / 2) (to e)
   unfolding fro to
   edge-step e h =
@@ -71,6 +76,7 @@ module _ (ws : List ℕ) where
       at : ℕ → ℕ
       at i = getD ws i 0
 
+  -- so a way is a chain
   pub way-reach : (e c d : ℕ) → e ≤ 2 * rules ws → Way e c d → Reach ws c d
   unfolding Way
   way-reach zero c d h p = ([], p)
@@ -79,6 +85,7 @@ module _ (ws : List ℕ) where
       reach-trans ws c (fro e) d (way-reach e c (fro e) (omega arith) (p .0))
       (reach-trans ws (fro e) (to e) d (reach-step ws (fro e) (e / 2) (to e) (edge-step e h)) (way-reach e (to e) d (omega arith) (p .1)))
 
+  -- and a step is a way
   pub step-way : (a k b : ℕ) → Step ws a k b → Way (2 * rules ws) a b
   unfolding fro to
   step-way a k b s =
@@ -91,10 +98,12 @@ module _ (ws : List ℕ) where
       by : (e : ℕ) → e < 2 * rules ws → fro e ≡ a → to e ≡ b → Way (2 * rules ws) a b
       by e h p q = subst₂ (Way (2 * rules ws)) p q (way-edge (2 * rules ws) e h)
 
+  -- so is a chain
   pub chain-way : (a : ℕ) (ks : List ℕ) (b : ℕ) → Chain ws a ks b → Way (2 * rules ws) a b
   chain-way a [] b p = subst (Way (2 * rules ws) a) p (way-refl (2 * rules ws) a)
   chain-way a (k ∷ ks) b p = way-trans (2 * rules ws) a (p .0) b (step-way a k (p .0) (p .1)) (chain-way (p .0) ks b (p .2))
 
+  -- hence whether a code reaches another is decided
   unfoldable pub reach? : (c d : ℕ) → Dec (Reach ws c d)
   unfolding way?
   reach? c d =

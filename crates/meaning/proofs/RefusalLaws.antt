@@ -20,14 +20,14 @@ abbrev pub NoneApplies : List Check → Type 0
 NoneApplies [] = Unit {0}
 NoneApplies (check applies number place ∷ cs) = (applies ≡ false) × NoneApplies cs
 
--- nothing due is no refusal
-pub never : (number place : ℕ) → Due.none ≡ refused number place → ⊥
-never number place e = let z : _≡_ {A = ℕ} 0 1 = cc in omega arith
+-- nothing is due, or a refusal, never both
+pub not-refused : (number place : ℕ) → Due.none ≡ refused number place → ⊥
+not-refused number place e = let z : _≡_ {A = ℕ} 0 1 = cc in omega arith
 
 -- where nothing is due, no check applies
 pub none-applies : (cs : List Check) → firstOf cs ≡ Due.none → NoneApplies cs
 none-applies [] e = tt
-none-applies (check true number place ∷ cs) e = absurd (never number place (sym e))
+none-applies (check true number place ∷ cs) e = absurd (not-refused number place (sym e))
 none-applies (check false number place ∷ cs) e = (refl, none-applies cs e)
 
 -- and the other way round
@@ -42,8 +42,9 @@ pub record Given (cs : List Check) (number place : ℕ) : Type 0 where
   pub checks : cs ≡ before ++ check true number place ∷ after
   pub earlier : NoneApplies before
 
+-- what is due was given
 pub due-given : (cs : List Check) (number place : ℕ) → firstOf cs ≡ refused number place → Given cs number place
-due-given [] number place e = absurd (never number place e)
+due-given [] number place e = absurd (not-refused number place e)
 due-given (check true k p ∷ cs) number place e =
     let f : k ≡ number = cc in
     let g : p ≡ place = cc in
@@ -59,10 +60,11 @@ due-behind (check applies number place ∷ cs) ds h = rw (h .0) (due-behind cs d
 
 -- and where one of them applies, it is due whatever follows
 pub due-ahead : (cs ds : List Check) (number place : ℕ) → firstOf cs ≡ refused number place → firstOf (cs ++ ds) ≡ refused number place
-due-ahead [] ds number place e = absurd (never number place e)
+due-ahead [] ds number place e = absurd (not-refused number place e)
 due-ahead (check true k p ∷ cs) ds number place e = e
 due-ahead (check false k p ∷ cs) ds number place e = due-ahead cs ds number place e
 
+-- what is given is due
 pub given-due : (cs : List Check) (number place : ℕ) → Given cs number place → firstOf cs ≡ refused number place
 given-due cs number place g = rw (g .checks) (due-behind (g .before) (check true number place ∷ g .after) (g .earlier))
 
@@ -95,9 +97,11 @@ pub record Accepted (n : ℕ) (ws : List ℕ) (area needs work : ℕ) : Type 0 w
   pub space : workNeeds n ws ≤ work
   pub range : InRange n ws
 
+-- words that are not odd are two a rule
 even-of : (ws : List ℕ) → length ws % 2 ≢ 1 → length ws ≡ 2 * rules ws
 even-of ws h = omega arith
 
+-- what holds where no check applies
 checks-accept : (n : ℕ) (ws : List ℕ) (area needs work : ℕ) → NoneApplies (listChecks n ws area needs work) → Accepted n ws area needs work
 checks-accept n ws area needs work h =
     let codes : (i : ℕ) → i < length ws → getD ws i 0 < 2 * n =
@@ -111,6 +115,7 @@ checks-accept n ws area needs work h =
       range = λ k l. (codes (2 * k) (omega arith), codes (2 * k + 1) (omega arith));
     }
 
+-- so a list on which nothing is due is accepted
 pub accepted : (n : ℕ) (ws : List ℕ) (area needs work : ℕ) → listDue n ws area needs work ≡ Due.none → Accepted n ws area needs work
 unfolding listDue
 accepted n ws area needs work e = checks-accept n ws area needs work (none-applies (listChecks n ws area needs work) e)
@@ -148,6 +153,11 @@ named number place =
     (cond (eqb number 9) (NumberPadded place)
     (cond (eqb number 10) (BytesLeft place) (ValueTooHigh place))))))))))
 
+-- the number of each check is that of a refusal
+abbrev pub AllNamed : List Check → Type 0
+AllNamed [] = Unit {0}
+AllNamed (check applies number place ∷ cs) = (asDue (named number place) ≡ refused number place) × AllNamed cs
+
 -- number and place tell the refusal
 pub named-same : (r : Refusal) → named (numberOf r) (placeOf r) ≡ r
 named-same (TooManyChoices p) = refl
@@ -162,6 +172,7 @@ named-same (NumberPadded p) = refl
 named-same (BytesLeft p) = refl
 named-same (ValueTooHigh p) = refl
 
+-- so the refusal is that of what is due
 pub due-named : (r : Refusal) (number place : ℕ) → asDue r ≡ refused number place → r ≡ named number place
 due-named r number place e =
     let f : numberOf r ≡ number = cc in

@@ -27,10 +27,12 @@ abbrev pub With : List ℕ → (ℕ → Type 0) → ℕ → ℕ → Type 0
 With ws S c d = S d ⊎ Reach ws c d
 
 module _ (ws : List ℕ) (S : ℕ → Type 0) (closed : Closed ws S) where
+  -- no chain leaves a closed set
   pub closed-chain : (a : ℕ) (ks : List ℕ) (b : ℕ) → Chain ws a ks b → S a → S b
   closed-chain a [] b p h = subst S p h
   closed-chain a (k ∷ ks) b p h = closed-chain (p .0) ks b (p .2) (closed a k (p .0) (p .1) h)
 
+  -- so it has all that its codes reach
   pub closed-reach : (a b : ℕ) → Reach ws a b → S a → S b
   closed-reach a b p h = closed-chain a (p .0) b (p .1) h
 
@@ -53,6 +55,7 @@ module _ (ws : List ℕ) (S : ℕ → Type 0) (closed : Closed ws S) where
       met k h = ⊎-elim (λ t. inl t) (λ t. inr (other k h t)) (true-or-opposite n r rota (left ws k))
 
   module _ (cons : Consistent S) (c : ℕ) (out : S (opposite c) → ⊥) (free : Reach ws c (opposite c) → ⊥) where
+    -- a closed set with all that c reaches is closed
     pub with-closed : Closed ws (With ws S c)
     with-closed a k b s h = ⊎-elim (λ i. inl (closed a k b s i)) (λ p. inr (reach-trans ws c a b p (reach-step ws a k b s))) h
 
@@ -60,6 +63,7 @@ module _ (ws : List ℕ) (S : ℕ → Type 0) (closed : Closed ws S) where
     back : (d : ℕ) → Reach ws c (opposite d) → Reach ws d (opposite c)
     back d p = rw (opposite-opposite d) at (reach-flip ws c (opposite d) p)
 
+    -- and consistent, if the opposite of c was not in it and c does not lead there
     pub with-consistent : Consistent (With ws S c)
     with-consistent d (inl h) (inl k) = cons d h k
     with-consistent d (inl h) (inr p) = out (closed-reach d (opposite c) (back d p) h)
@@ -77,9 +81,11 @@ reach-consistent ws c free d p q = free (reach-trans ws c d (opposite c) p (rw (
 abbrev pub Spread : List ℕ → (ℕ → Type 0) → ℕ → Type 0
 Spread ws P d = (c : ℕ) × P c × Reach ws c d
 
+-- that set is closed
 pub spread-closed : (ws : List ℕ) (P : ℕ → Type 0) → Closed ws (Spread ws P)
 spread-closed ws P a k b s h = (h .0, h .1, reach-closed ws (h .0) a k b s (h .2))
 
+-- and consistent, if no code of P leads to the opposite of one
 pub spread-consistent : (ws : List ℕ) (P : ℕ → Type 0) → ((c d : ℕ) → P c → P d → Reach ws c (opposite d) → ⊥) → Consistent (Spread ws P)
 spread-consistent ws P free e h k =
     free (h .0) (k .0) (h .1) (k .1) (reach-trans ws (h .0) e (opposite (k .0)) (h .2) (rw (opposite-opposite e) at (reach-flip ws (k .0) (opposite e) (k .2))))

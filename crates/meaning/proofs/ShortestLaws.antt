@@ -36,18 +36,22 @@ module _ (ws : List ℕ) (b : ℕ) (dist : ℕ → ℕ) where
       (c : ℕ) × Step ws a k c × (dist a ≡ dist c + 1) × ((j d : ℕ) → j < k → Step ws a j d → dist a ≤ dist d) × Nearing c ks
 
   module _ (D : Distance) where
+    -- no chain is shorter than the distance
     pub distance-below : (a : ℕ) (ks : List ℕ) → Chain ws a ks b → dist a ≤ length ks
     distance-below a [] p = omega (arith, D .end, ap dist p)
     distance-below a (k ∷ ks) p = omega (arith, D .slow a k (p .0) (p .1), distance-below (p .0) ks (p .2))
 
+    -- a nearing list is a chain
     pub nearing-chain : (a : ℕ) (ks : List ℕ) → Nearing a ks → Chain ws a ks b
     nearing-chain a [] p = p
     nearing-chain a (k ∷ ks) p = (p .0, p .1, nearing-chain (p .0) ks (p .4))
 
+    -- as long as the distance
     pub nearing-length : (a : ℕ) (ks : List ℕ) → Nearing a ks → dist a ≡ length ks
     nearing-length a [] p = omega (arith, D .end, ap dist p)
     nearing-length a (k ∷ ks) p = omega (arith, p .2, nearing-length (p .0) ks (p .4))
 
+    -- and no chain of that length comes before it
     nearing-least : (a : ℕ) (ks : List ℕ) → Nearing a ks → (js : List ℕ) → Chain ws a js b → length js ≡ length ks → Before js ks → ⊥
     nearing-least a [] p js q e h = before-nil js h
     nearing-least a (k ∷ ks) p [] q e h = omega (arith, e)
@@ -59,6 +63,7 @@ module _ (ws : List ℕ) (b : ℕ) (dist : ℕ → ℕ) where
         nearing-least (p .0) ks (p .4) js (rw same at (q .2)) (omega arith) (t .1))
         (before-uncons j js k ks h)
 
+    -- so it is the shortest chain that is named
     pub nearing-shortest : (a : ℕ) (ks : List ℕ) → Nearing a ks → Shortest ws a b ks
     nearing-shortest a ks p =
         record {

@@ -51,21 +51,25 @@ possible-free n ws p v h c = clash-impossible n ws v c (p .0) (p .1)
 
 -- on a possible list a choice is free where neither of its codes leads to the other
 module _ (n : ℕ) (ws : List ℕ) (range : InRange n ws) (free : (v : ℕ) → v < n → Clash ws v → ⊥) (v : ℕ) (h : v < n) where
+  -- early in some rota
   pub sometimes-early : (Reach ws (early v) (late v) → ⊥) → Sometimes n ws v 0
   sometimes-early out =
       let w = true-exists n ws range (reach? ws) free (early v) (omega arith) (λ p. out (rw (opposite-early v) at p)) in
       (w .0, w .1, true-early (w .0) v (w .2))
 
+  -- late in some rota
   pub sometimes-late : (Reach ws (late v) (early v) → ⊥) → Sometimes n ws v 1
   sometimes-late out =
       let w = true-exists n ws range (reach? ws) free (late v) (omega arith) (λ p. out (rw (opposite-late v) at p)) in
       (w .0, w .1, true-late (w .0) v (w .2))
 
+  -- so neither is forced
   pub forced-differ : (Reach ws (early v) (late v) → ⊥) → (Reach ws (late v) (early v) → ⊥) → Forced n ws v 2
   forced-differ e l = (sometimes-early e, sometimes-late l)
 
 -- on a possible list early is forced exactly by a chain from late to early, and late by one from early to late
 module _ (n : ℕ) (ws : List ℕ) (range : InRange n ws) (possible : Possible n ws) (v : ℕ) (h : v < n) where
+  -- early
   pub early-forced : Always n ws v 0 ↔ Reach ws (late v) (early v)
   early-forced = (
     (λ always. elim (reach? ws (late v) (early v)) [
@@ -75,6 +79,7 @@ module _ (n : ℕ) (ws : List ℕ) (range : InRange n ws) (possible : Possible n
     late-early-forces n ws v,
   )
 
+  -- late
   pub late-forced : Always n ws v 1 ↔ Reach ws (early v) (late v)
   late-forced = (
     (λ always. elim (reach? ws (early v) (late v)) [

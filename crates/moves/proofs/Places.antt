@@ -14,6 +14,7 @@ pub use Rattle.meaning.proofs.General.{same?}
 pub apart-refl : (n : ℕ) (W : List ℕ) → Apart n W W
 apart-refl n W = record { long = refl; heads = λ c l. refl; spares = λ x l. refl; nexts = λ e. refl }
 
+-- two turns
 pub apart-trans : {n : ℕ} {W W′ W″ : List ℕ} → Apart n W W′ → Apart n W′ W″ → Apart n W W″
 apart-trans p q =
     record {
@@ -75,6 +76,7 @@ module _ (n : ℕ) (W : List ℕ) (i v : ℕ) (li : i < 2 * n) (fits : Tables n 
 pub spared-refl : (n : ℕ) (W : List ℕ) → Spared n W W
 spared-refl n W = record { long = refl; heads = λ c l. refl; marks = λ x l. refl; trails = λ i l. refl; nexts = λ e. refl }
 
+-- two turns
 pub spared-trans : {n : ℕ} {W W′ W″ : List ℕ} → Spared n W W′ → Spared n W′ W″ → Spared n W W″
 spared-trans p q =
     record {

@@ -73,6 +73,7 @@ module _ (N : ℕ) (mk q mk′ q′ : ℕ → ℕ) (t b : ℕ) (r : Trail N mk q
 pub onto-refl : {N : ℕ} {mk q : ℕ → ℕ} {t : ℕ} → Trail N mk q t → Onto N mk q t mk q t
 onto-refl r = record { listed = r; grows = omega arith; old = λ i l. refl; kept = λ x l p. refl }
 
+-- and from what it went on from
 pub onto-trans : {N : ℕ} {mk q : ℕ → ℕ} {t : ℕ} {mk₁ q₁ : ℕ → ℕ} {t₁ : ℕ} {mk₂ q₂ : ℕ → ℕ} {t₂ : ℕ} →
     Onto N mk q t mk₁ q₁ t₁ → Onto N mk₁ q₁ t₁ mk₂ q₂ t₂ → Onto N mk q t mk₂ q₂ t₂
 onto-trans r s =

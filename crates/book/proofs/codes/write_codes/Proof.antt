@@ -5,7 +5,7 @@ use borrow.Author.Needs.{needs}
 use denote.Ref.{now}
 use Rattle.book.specs.declared.number.Number.{Number}
 use Rattle.book.specs.Inner.{NumberBelow}
-use Rattle.book.proofs.CodesWays.{Writing, write-start, not-refused, code-small, write-turn, write-done}
+use Rattle.book.proofs.CodesWays.{Writing, write-start, code-not-refused, code-small, write-turn, write-done}
 use Rattle.book.proofs.codes.write_codes.Statement.{statement}
 use Rattle.book.proofs.codes.write_codes.Tie as tie
 
@@ -41,7 +41,7 @@ same-length c = c .before .before .before .before .loop .inv .long
 
 returns : tie.Need-returns Inv-loop μ-loop
 returns c =
-    absurd (not-refused _ _ _ _ _ _ _ _ (c .before .before .before .before .loop .inv) (c .before .before .before .loop-test .taken)
+    absurd (code-not-refused _ _ _ _ _ _ _ _ (c .before .before .before .before .loop .inv) (c .before .before .before .loop-test .taken)
     (c .enum-told .given .0 .0) (rw (c .enum-told .given .1) at (c .before .before .code-at .ensures)))
 
 cast-words : tie.Need-cast-words Inv-loop μ-loop
