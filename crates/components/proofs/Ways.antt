@@ -7,7 +7,7 @@ use lib.ListN.{length, getD}
 use Rattle.meaning.specs.Chains.{Step, Chain, Reach, Tied}
 use Rattle.meaning.specs.Codes.{opposite}
 use Rattle.moves.specs.Layout.{Sizes}
-use Rattle.meaning.proofs.ChainLaws.{reach-trans, reach-flip, reach-step}
+use Rattle.meaning.proofs.ChainLaws.{reach-trans, reach-flip, reach-turn, reach-step}
 use Rattle.meaning.proofs.CodeLaws.{opposite-opposite}
 use Rattle.moves.proofs.Steps.{other-end-below, word-below, step-end}
 
@@ -15,7 +15,7 @@ use Rattle.moves.proofs.Steps.{other-end-below, word-below, step-end}
 pub join : {ws : List ℕ} {a b c : ℕ} → Reach ws a b → Reach ws b c → Reach ws a c
 join {ws} {a} {b} {c} p q = reach-trans ws a b c p q
 
--- the way from a code to itself, and one step
+-- the way from a code to itself
 pub here : {ws : List ℕ} {a b : ℕ} → a ≡ b → Reach ws a b
 here e = ([], e)
 
@@ -23,13 +23,13 @@ here e = ([], e)
 pub once : {ws : List ℕ} {a k b : ℕ} → Step ws a k b → Reach ws a b
 once {ws} {a} {k} {b} st = reach-step ws a k b st
 
--- a way turned round, from an opposite and to one
+-- a way from an opposite, turned round
 pub turned-from : {ws : List ℕ} {a b : ℕ} → Reach ws (opposite a) b → Reach ws (opposite b) a
 turned-from {ws} {a} {b} r = subst (λ (x : ℕ). Reach ws (opposite b) x) (opposite-opposite a) (reach-flip ws (opposite a) b r)
 
--- from the opposite of the other
+-- and a way to one
 pub turned-to : {ws : List ℕ} {a b : ℕ} → Reach ws a (opposite b) → Reach ws b (opposite a)
-turned-to {ws} {a} {b} r = subst (λ (x : ℕ). Reach ws x (opposite a)) (opposite-opposite b) (reach-flip ws a (opposite b) r)
+turned-to {ws} {a} {b} r = reach-turn ws a b r
 
 -- being tied goes round
 pub tied-flip : {ws : List ℕ} {a b : ℕ} → Tied ws a b → Tied ws b a

@@ -48,6 +48,10 @@ module _ (ws : List ℕ) where
   pub reach-flip : (a b : ℕ) → Reach ws a b → Reach ws (opposite b) (opposite a)
   reach-flip a b p = (reverse (p .0), chain-flip a (p .0) b (p .1))
 
+  -- so what leads from a to the opposite of b, turned round, leads from b to the opposite of a
+  pub reach-turn : (a b : ℕ) → Reach ws a (opposite b) → Reach ws b (opposite a)
+  reach-turn a b p = rw (opposite-opposite b) at (reach-flip a (opposite b) p)
+
 -- in a rota a code or its opposite is true
 pub true-or-opposite : (n : ℕ) (r : List ℕ) → Rota n r → (c : ℕ) → True r c ⊎ True r (opposite c)
 true-or-opposite n r h c =

@@ -23,7 +23,7 @@ abbrev pub Must : List ℕ → List ℕ → ℕ → Type 0
 Must ws r i = Reach ws (early i) (late i) ⊎ ((c : ℕ) × (choiceOf c < i) × True r c × Reach ws c (late i))
 
 module _ (n : ℕ) (ws r : List ℕ) where
-  -- and so it is
+  -- so it is late there
   pub must-late : (i : ℕ) → Must ws r i → (s : List ℕ) → Allowed n ws s → Agree i s r → getD s i 0 ≡ 1
   must-late i (inl p) s ok same = early-late-forces n ws i p s ok
   must-late i (inr p) s ok same =

@@ -211,7 +211,7 @@ module _ (n : ℕ) (ws : List ℕ) (range : InRange n ws) (reach? : (c d : ℕ) 
           (grown-late ws B S v g (λ e. l (closed-reach ws S (g .closed) (early v) (late v) p e)) (λ q. free v h (q, p)) (inr p))
       go (no l) (no p) = on (With ws S (early v)) (has-with (early v)) (grown-early ws B S v g l p)
 
-  -- the last k choices are
+  -- and so are the last k choices
   pub walk : (k v : ℕ) (S : ℕ → Type 0) → v + k ≡ n → ((c : ℕ) → Dec (S c)) → Grown ws B S v → Made
   walk zero v S e has g = make S has (subst (Grown ws B S) (omega arith) g)
   walk (suc k) v S e has g = grow v S (omega arith) has g (λ S′ has′ g′. walk k (suc v) S′ (omega arith) has′ g′)

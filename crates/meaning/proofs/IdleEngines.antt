@@ -26,13 +26,13 @@ use Rattle.meaning.proofs.RefusalLaws.{not-refused}
 use Rattle.meaning.proofs.TwoSat.{lowest}
 use Rattle.meaning.proofs.Unique.{tie-unique}
 
--- an engine gives, for the number of choices, the rules' words, the answer's area and the work area, an answer and the two areas afterwards
+-- what an engine leaves: an answer, and the two areas afterwards
 pub record Left (A : Type 0) : Type 0 where
   pub answer : A
   pub area : List ℕ
   pub work : List ℕ
 
--- an engine
+-- an engine leaves it for the number of choices, the rules' words, the answer's area and the work area
 abbrev pub Engine : Type 0 → Type 0
 Engine A = ℕ → List ℕ → List ℕ → List ℕ → Left A
 

@@ -64,11 +64,11 @@ module _ (n : ℕ) (ws r : List ℕ) where
     abbrev Base : ℕ → Type 0
     Base d = Spread ws (Kept r j) d
 
-    -- it has the codes of the choices before j as r has them: early
+    -- it has early u where r has u early, before j
     base-early : (u : ℕ) → u < j → getD r u 0 ≡ 0 → Base (early u)
     base-early u h e = (early u, inl (omega arith, early-true r u e), reach-refl ws (early u))
 
-    -- late
+    -- and late u where r has u late
     base-late : (u : ℕ) → u < j → getD r u 0 ≡ 1 → Base (late u)
     base-late u h e = (late u, inl (omega arith, late-true r u e), reach-refl ws (late u))
 

@@ -7,7 +7,7 @@ use Rattle.meaning.specs.Chains.{Step, Chain, Reach}
 use Rattle.meaning.specs.Codes.{opposite}
 use Rattle.meaning.specs.Rotas.{True, Met, Rota, Allowed}
 use Rattle.meaning.specs.Rules.{rules, left, right, InRange}
-use Rattle.meaning.proofs.ChainLaws.{reach-step, reach-trans, reach-flip, true-or-opposite}
+use Rattle.meaning.proofs.ChainLaws.{reach-step, reach-trans, reach-flip, reach-turn, true-or-opposite}
 use Rattle.meaning.proofs.CodeLaws.{opposite-opposite, opposite-below}
 
 -- no step leaves the set
@@ -59,23 +59,19 @@ module _ (ws : List ℕ) (S : ℕ → Type 0) (closed : Closed ws S) where
     pub with-closed : Closed ws (With ws S c)
     with-closed a k b s h = ⊎-elim (λ i. inl (closed a k b s i)) (λ p. inr (reach-trans ws c a b p (reach-step ws a k b s))) h
 
-    -- what reaches d from c leads back from the opposite of d to the opposite of c
-    back : (d : ℕ) → Reach ws c (opposite d) → Reach ws d (opposite c)
-    back d p = rw (opposite-opposite d) at (reach-flip ws c (opposite d) p)
-
     -- and consistent, if the opposite of c was not in it and c does not lead there
     pub with-consistent : Consistent (With ws S c)
     with-consistent d (inl h) (inl k) = cons d h k
-    with-consistent d (inl h) (inr p) = out (closed-reach d (opposite c) (back d p) h)
+    with-consistent d (inl h) (inr p) = out (closed-reach d (opposite c) (reach-turn ws c d p) h)
     with-consistent d (inr p) (inl k) = out (closed-reach (opposite d) (opposite c) (reach-flip ws c d p) k)
-    with-consistent d (inr p) (inr q) = free (reach-trans ws c d (opposite c) p (back d q))
+    with-consistent d (inr p) (inr q) = free (reach-trans ws c d (opposite c) p (reach-turn ws c d q))
 
 -- what a code reaches is closed, and consistent if the code does not lead to its opposite
 pub reach-closed : (ws : List ℕ) (c : ℕ) → Closed ws (Reach ws c)
 reach-closed ws c a k b s p = reach-trans ws c a b p (reach-step ws a k b s)
 
 pub reach-consistent : (ws : List ℕ) (c : ℕ) → (Reach ws c (opposite c) → ⊥) → Consistent (Reach ws c)
-reach-consistent ws c free d p q = free (reach-trans ws c d (opposite c) p (rw (opposite-opposite d) at (reach-flip ws c (opposite d) q)))
+reach-consistent ws c free d p q = free (reach-trans ws c d (opposite c) p (reach-turn ws c d q))
 
 -- all that the codes of P reach
 abbrev pub Spread : List ℕ → (ℕ → Type 0) → ℕ → Type 0
@@ -88,4 +84,4 @@ spread-closed ws P a k b s h = (h .0, h .1, reach-closed ws (h .0) a k b s (h .2
 -- and consistent, if no code of P leads to the opposite of one
 pub spread-consistent : (ws : List ℕ) (P : ℕ → Type 0) → ((c d : ℕ) → P c → P d → Reach ws c (opposite d) → ⊥) → Consistent (Spread ws P)
 spread-consistent ws P free e h k =
-    free (h .0) (k .0) (h .1) (k .1) (reach-trans ws (h .0) e (opposite (k .0)) (h .2) (rw (opposite-opposite e) at (reach-flip ws (k .0) (opposite e) (k .2))))
+    free (h .0) (k .0) (h .1) (k .1) (reach-trans ws (h .0) e (opposite (k .0)) (h .2) (reach-turn ws (k .0) e (k .2)))

@@ -107,7 +107,7 @@ bits? [] = yes (λ v. omega arith)
 bits? (x ∷ r) = map? (λ p. cons-bits x r (p .0) (p .1)) (λ f. (f 0, (λ v. f (suc v)))) (and? (decLe x 1) (bits? r))
 
 module _ (n : ℕ) (ws : List ℕ) where
-  -- allowed
+  -- whether it is allowed
   abbrev pub allowed? : (r : List ℕ) → Dec (Allowed n ws r)
   allowed? r =
       map? (λ p. record { rota = record { long = p .0 .0; bits = p .0 .1 }; met = p .1 }) (λ a. ((a .rota .long, a .rota .bits), a .met))
@@ -127,7 +127,7 @@ before? [] (y ∷ s) = map? (before-pad y s) (before-unpad y s) (or? (decLt 0 y)
 before? (x ∷ r) (y ∷ s) = map? (before-join x r y s) (before-uncons x r y s) (or? (decLt x y) (and? (ℕ-discrete x y) (before? r s)))
 
 module _ (n : ℕ) (ws : List ℕ) where
-  -- first, next, ended, and a value that all allowed rotas have
+  -- whether it is the first, the next, the last, and whether all allowed rotas have a value
   abbrev pub first? : (r : List ℕ) → Dec (First n ws r)
   first? r =
       map? (λ p. record { allowed = p .0; least = p .1 }) (λ f. (f .allowed, f .least))
@@ -169,7 +169,7 @@ some? P zero d = map? (λ p. ([], nil-rota, p)) (some-nil P) (d [])
 some? P (suc n) d = map? (some-uncons P n) (some-cons P n) (or? (some? (λ r. P (0 ∷ r)) n (λ r. d (0 ∷ r))) (some? (λ r. P (1 ∷ r)) n (λ r. d (1 ∷ r))))
 
 module _ (n : ℕ) (ws : List ℕ) where
-  -- a value that some allowed rota has, and the forced byte
+  -- whether some allowed rota has a value, and whether a byte is the forced one
   abbrev pub sometimes? : (v x : ℕ) → Dec (Sometimes n ws v x)
   sometimes? v x =
       map? (λ p. (p .0, p .2 .0, p .2 .1)) (λ p. (p .0, p .1 .rota, (p .1, p .2)))
@@ -262,12 +262,12 @@ module _ (ws : List ℕ) (b : ℕ) where
       (and? (below? (length ks) (λ j. chains? (λ js. ⊥) j a (λ js. no (λ h. h)))) (chains? (λ js. Before js ks → ⊥) (length ks) a (λ js. not? (before? js ks)))))
 
 module _ (ws : List ℕ) where
-  -- the lowest clash
+  -- whether a choice is the lowest that clashes
   abbrev pub lowest? : (v : ℕ) → Dec (LowestClash ws v)
   lowest? v =
       map? (λ p. record { clash = p .0; lowest = p .1 }) (λ l. (l .clash, l .lowest)) (and? (clash? ws v) (below? v (λ u. not? (clash? ws u))))
 
-  -- tied codes
+  -- whether two codes are tied
   abbrev pub tied? : (a c : ℕ) → Dec (Tied ws a c)
   tied? a c = and? (reach? ws a c) (reach? ws c a)
 
@@ -279,7 +279,7 @@ module _ (ws : List ℕ) where
   pub of-smallest : (v c : ℕ) → ((d : ℕ) → Tied ws (late v) d → c ≤ d) → (d : ℕ) → d < c → Tied ws (late v) d → ⊥
   of-smallest v c f d h t = omega (arith, f d t)
 
-  -- the tie
+  -- whether a code is the tie
   abbrev pub tie? : (v c : ℕ) → Dec (Tie ws v c)
   tie? v c =
       map? (λ p. record { tied = p .0; smallest = smallest-of v c (p .1) }) (λ t. (t .tied, of-smallest v c (t .smallest)))

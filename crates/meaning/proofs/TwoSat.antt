@@ -67,9 +67,9 @@ module _ (n : ℕ) (ws : List ℕ) (range : InRange n ws) (free : (v : ℕ) → 
   pub forced-differ : (Reach ws (early v) (late v) → ⊥) → (Reach ws (late v) (early v) → ⊥) → Forced n ws v 2
   forced-differ e l = (sometimes-early e, sometimes-late l)
 
--- on a possible list early is forced exactly by a chain from late to early, and late by one from early to late
+-- what is forced on a possible list
 module _ (n : ℕ) (ws : List ℕ) (range : InRange n ws) (possible : Possible n ws) (v : ℕ) (h : v < n) where
-  -- early
+  -- early is forced exactly by a chain from late to early
   pub early-forced : Always n ws v 0 ↔ Reach ws (late v) (early v)
   early-forced = (
     (λ always. elim (reach? ws (late v) (early v)) [
@@ -79,7 +79,7 @@ module _ (n : ℕ) (ws : List ℕ) (range : InRange n ws) (possible : Possible n
     late-early-forces n ws v,
   )
 
-  -- late
+  -- late is forced exactly by a chain from early to late
   pub late-forced : Always n ws v 1 ↔ Reach ws (early v) (late v)
   late-forced = (
     (λ always. elim (reach? ws (early v) (late v)) [

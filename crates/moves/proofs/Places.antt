@@ -2,11 +2,11 @@
 use mathlib.Core.Path.{_≡_, refl, _∙_}
 use mathlib.Core.Logic.{_≢_}
 use mathlib.Core.List.{List}
-use Prim.Native.Nat.{ℕ, _*_, _<_}
+use Prim.Native.Nat.{ℕ, _*_, _≤_, _<_}
 use native.Mathlib.Omega.{arith}
 use lib.ListN.{length, set, length-set}
 use lib.Seq.{getD-set-same, getD-set-other}
-use Rattle.moves.specs.Layout.{headAt, markAt, trailAt, spareAt, nextAt, mark, trail, spare, Tables, Sizes, Apart, Spared}
+use Rattle.moves.specs.Layout.{headAt, markAt, trailAt, spareAt, nextAt, head, mark, trail, spare, next, Tables, Sizes, Apart, Spared}
 use Rattle.moves.specs.Lists.{Ready}
 pub use Rattle.meaning.proofs.General.{same?}
 
@@ -22,6 +22,16 @@ apart-trans p q =
       heads = λ c l. q .heads c l ∙ p .heads c l;
       spares = λ x l. q .spares x l ∙ p .spares x l;
       nexts = λ e. q .nexts e ∙ p .nexts e;
+    }
+
+-- a store in the marks or in the trail
+store-apart : (n : ℕ) (W : List ℕ) (p v : ℕ) → markAt n 0 ≤ p → p < spareAt n 0 → Apart n W (set W p v)
+store-apart n W p v from to =
+    record {
+      long = length-set W p v;
+      heads = λ c l. getD-set-other W p (headAt n c) v 0 (omega arith);
+      spares = λ x l. getD-set-other W p (spareAt n x) v 0 (omega arith);
+      nexts = λ e. getD-set-other W p (nextAt n e) v 0 (omega arith);
     }
 
 -- after a store in the marks
@@ -40,13 +50,7 @@ module _ (n : ℕ) (W : List ℕ) (x v : ℕ) (lx : x < 2 * n) (fits : Tables n 
 
   -- and all but the marks
   pub mark-apart : Apart n W (set W (markAt n x) v)
-  mark-apart =
-      record {
-        long = length-set W (markAt n x) v;
-        heads = λ c l. getD-set-other W (markAt n x) (headAt n c) v 0 (omega arith);
-        spares = λ y l. getD-set-other W (markAt n x) (spareAt n y) v 0 (omega arith);
-        nexts = λ e. getD-set-other W (markAt n x) (nextAt n e) v 0 (omega arith);
-      }
+  mark-apart = store-apart n W (markAt n x) v (omega arith) (omega arith)
 
 -- after a store in the trail
 module _ (n : ℕ) (W : List ℕ) (i v : ℕ) (li : i < 2 * n) (fits : Tables n W) where
@@ -64,13 +68,7 @@ module _ (n : ℕ) (W : List ℕ) (i v : ℕ) (li : i < 2 * n) (fits : Tables n 
 
   -- and all but the trail
   pub trail-apart : Apart n W (set W (trailAt n i) v)
-  trail-apart =
-      record {
-        long = length-set W (trailAt n i) v;
-        heads = λ c l. getD-set-other W (trailAt n i) (headAt n c) v 0 (omega arith);
-        spares = λ y l. getD-set-other W (trailAt n i) (spareAt n y) v 0 (omega arith);
-        nexts = λ e. getD-set-other W (trailAt n i) (nextAt n e) v 0 (omega arith);
-      }
+  trail-apart = store-apart n W (trailAt n i) v (omega arith) (omega arith)
 
 -- the spare table
 pub spared-refl : (n : ℕ) (W : List ℕ) → Spared n W W
@@ -116,14 +114,19 @@ sizes-long s e = record { few = s .few; short = s .short; even = s .even; codes 
 pub tables : {n : ℕ} {ws W : List ℕ} → Sizes n ws W → Tables n W
 tables s = omega (arith, s .room)
 
--- what stays ready
-pub ready-apart : {n : ℕ} {ws W W′ : List ℕ} → Ready n ws W → Apart n W W′ → Ready n ws W′
-ready-apart r p =
+-- what stays ready: an area with the same heads and nexts
+pub ready-same : {n : ℕ} {ws W W′ : List ℕ} → Ready n ws W → length W′ ≡ length W → ((c : ℕ) → c < 2 * n → head n W′ c ≡ head n W c) →
+    ((e : ℕ) → next n W′ e ≡ next n W e) → Ready n ws W′
+ready-same r long heads nexts =
     record {
-      sizes = sizes-long (r .sizes) (p .long);
-      lists = record { heads = λ c l. rw (p .heads c l) (r .lists .heads c l); nexts = λ e a b. rw (p .nexts e) (r .lists .nexts e a b) };
+      sizes = sizes-long (r .sizes) long;
+      lists = record { heads = λ c l. rw (heads c l) (r .lists .heads c l); nexts = λ e a b. rw (nexts e) (r .lists .nexts e a b) };
     }
 
--- and have it still where only marks and trail differ
+-- so where only marks and trail differ
+pub ready-apart : {n : ℕ} {ws W W′ : List ℕ} → Ready n ws W → Apart n W W′ → Ready n ws W′
+ready-apart r p = ready-same r (p .long) (p .heads) (p .nexts)
+
+-- and the tables have room there
 pub tables-apart : {n : ℕ} {ws W W′ : List ℕ} → Sizes n ws W → Apart n W W′ → Tables n W′
 tables-apart s p = omega (arith, s .room, p .long)

@@ -10,9 +10,9 @@ use Rattle.moves.specs.Layout.{mark, trail, spare, Spared}
 use Rattle.moves.specs.Learning.{Notes, Still, Learnt, OnTrail, Shaded, Noted, Plain, Shadowed, Shared}
 use Rattle.moves.specs.Lists.{Ready}
 use Rattle.moves.specs.Walks.{GoesOn, Listed, Holding, SpreadFrom, Undone}
-use Rattle.meaning.proofs.ChainLaws.{reach-trans, reach-flip}
-use Rattle.meaning.proofs.CodeLaws.{opposite-opposite, opposite-below}
-use Rattle.moves.proofs.Places.{sizes-long}
+use Rattle.meaning.proofs.ChainLaws.{reach-trans, reach-turn}
+use Rattle.meaning.proofs.CodeLaws.{opposite-below}
+use Rattle.moves.proofs.Places.{ready-same}
 use Rattle.moves.proofs.Trails.{trail-few, trail-same}
 use Rattle.moves.proofs.Trying.{holding-same, undone-old, undone-same}
 
@@ -46,11 +46,7 @@ still-trans p q =
 
 -- what was ready is ready
 pub ready-still : {n tail : ℕ} {ws W W′ : List ℕ} → Ready n ws W → Still n ws tail W W′ → Ready n ws W′
-ready-still r p =
-    record {
-      sizes = sizes-long (r .sizes) (p .long);
-      lists = record { heads = λ c l. rw (p .heads c l) (r .lists .heads c l); nexts = λ e a b. rw (p .nexts e) (r .lists .nexts e a b) };
-    }
+ready-still r p = ready-same r (p .long) (p .heads) (p .nexts)
 
 module _ {n : ℕ} {ws : List ℕ} {src tail : ℕ} {W W₁ : List ℕ} {t : ℕ} (h : Holding n ws W tail) (sp : SpreadFrom n ws src tail W W₁ t) where
   -- what is new on the trail, src reaches
@@ -113,7 +109,7 @@ module _ {n : ℕ} {ws : List ℕ} {src tail : ℕ} {W W₁ : List ℕ} {t : ℕ
 
 -- what b and its opposite both reach: its opposite leads to it
 pub both-reach : (ws : List ℕ) (b x : ℕ) → Reach ws b (opposite x) → Reach ws (opposite b) (opposite x) → Reach ws x (opposite x)
-both-reach ws b x p q = reach-trans ws x (opposite b) (opposite x) (rw (opposite-opposite x) at (reach-flip ws b (opposite x) p)) q
+both-reach ws b x p q = reach-trans ws x (opposite b) (opposite x) (reach-turn ws b x p) q
 
 module _ {n : ℕ} {ws : List ℕ} {b tail : ℕ} {W W₁ W₂ W₃ : List ℕ} (k : Notes n ws W) (p : Shadowed n ws b tail W W₁)
     (q : Shared n ws (opposite b) tail W₁ W₂) (r : Plain n (2 * n) W₂ W₃) where

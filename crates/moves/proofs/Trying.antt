@@ -9,7 +9,7 @@ use Rattle.meaning.specs.Codes.{opposite}
 use Rattle.moves.specs.Layout.{mark, trail}
 use Rattle.moves.specs.Trials.{Pressed, Grew, GaveUp}
 use Rattle.moves.specs.Walks.{GoesOn, Listed, Held, Holding, Undone}
-use Rattle.meaning.proofs.ChainLaws.{reach-trans, reach-flip}
+use Rattle.meaning.proofs.ChainLaws.{reach-trans, reach-flip, reach-turn}
 use Rattle.meaning.proofs.CodeLaws.{opposite-opposite, opposite-below}
 use Rattle.meaning.proofs.General.{same?}
 use Rattle.meaning.proofs.Sets.{Closed, closed-reach}
@@ -106,7 +106,7 @@ module _ {n : ℕ} {ws : List ℕ} {c tail : ℕ} {W W₁ : List ℕ} {t : ℕ} 
         isCode = m .0;
         toCode = m .1;
         toOpposite = other;
-        turns = reach-trans ws c b (opposite c) (m .1) (rw (opposite-opposite b) at (reach-flip ws c (opposite b) other));
+        turns = reach-trans ws c b (opposite c) (m .1) (reach-turn ws c b other);
         out = same b (m .0) ∙ unmarked (m .0) outside;
         outOpposite = same (opposite b) lo ∙ unmarked lo (clear-of b (m .1));
       }
