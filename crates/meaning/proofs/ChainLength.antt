@@ -1,51 +1,15 @@
 -- A shortest chain between two of 2n codes has fewer than 2n rules: its codes are all different.
-use mathlib.Core.Path.{_≡_, refl, sym, ap, _∙_, subst}
-use mathlib.Core.Logic.{_⊎_, inl, inr, ⊎-elim, _≢_}
+use mathlib.Core.Path.{_≡_, refl, ap, _∙_}
+use mathlib.Core.Logic.{inl, inr, ⊎-elim, _≢_}
 use mathlib.Core.List.{List, [], _∷_}
-use Prim.Native.Nat.{ℕ, zero, suc, _*_, _≤_, _<_}
+use Prim.Native.Nat.{ℕ, suc, _*_, _≤_, _<_}
 use native.Mathlib.Omega.{arith}
 use native.Mathlib.Decide.{ℕ-discrete}
 use lib.ListN.{length}
 use Rattle.meaning.specs.Chains.{Step, Chain, Clash, Shortest}
 use Rattle.meaning.specs.Codes.{late, early}
 use Rattle.meaning.specs.Rules.{InRange}
-
--- x is one of the list
-abbrev In : ℕ → List ℕ → Type 0
-In x [] = ⊥
-In x (y ∷ ys) = (x ≡ y) ⊎ In x ys
-
--- no number stands in the list twice
-abbrev Distinct : List ℕ → Type 0
-Distinct [] = Unit {0}
-Distinct (x ∷ xs) = (In x xs → ⊥) × Distinct xs
-
--- what is left of distinct numbers up to n when n is taken out
-without : (n : ℕ) (xs : List ℕ) → Distinct xs → ((x : ℕ) → In x xs → x < suc n) →
-    (ys : List ℕ) × Distinct ys × ((y : ℕ) → In y ys → In y xs × (y < n)) × (length xs ≤ suc (length ys))
-without n [] d h = ([], tt, (λ y m. absurd m), omega arith)
-without n (x ∷ xs) d h = go (ℕ-discrete x n) (without n xs (d .1) (λ y m. h y (inr m)))
-  where
-    go : Dec (x ≡ n) → ((ys : List ℕ) × Distinct ys × ((y : ℕ) → In y ys → In y xs × (y < n)) × (length xs ≤ suc (length ys))) →
-        (ys : List ℕ) × Distinct ys × ((y : ℕ) → In y ys → In y (x ∷ xs) × (y < n)) × (suc (length xs) ≤ suc (length ys))
-    go (yes e) w = (xs, d .1, (λ y m. (inr m, below y m (ℕ-discrete y n))), omega arith)
-      where
-        below : (y : ℕ) → In y xs → Dec (y ≡ n) → y < n
-        below y m (yes q) = absurd (d .0 (subst (λ (z : ℕ). In z xs) (q ∙ sym e) m))
-        below y m (no q) = omega (arith, h y (inr m))
-    go (no e) w = (x ∷ w .0, ((λ m. d .0 (w .2 x m .0)), w .1), members, omega (arith, w .3))
-      where
-        members : (y : ℕ) → In y (x ∷ w .0) → In y (x ∷ xs) × (y < n)
-        members y (inl q) = (inl q, omega (arith, h x (inl refl)))
-        members y (inr m) = (inr (w .2 y m .0), w .2 y m .1)
-
--- distinct numbers below n are n at most
-pub distinct-length : (n : ℕ) (xs : List ℕ) → Distinct xs → ((x : ℕ) → In x xs → x < n) → length xs ≤ n
-distinct-length zero [] d h = omega arith
-distinct-length zero (x ∷ xs) d h = absurd (omega (arith, h x (inl refl)))
-distinct-length (suc n) xs d h =
-    let w = without n xs d h in
-    omega (arith, w .3, distinct-length n (w .0) (w .1) (λ y m. w .2 y m .1))
+use Rattle.meaning.proofs.General.{In, Distinct, distinct-length}
 
 module _ (ws : List ℕ) (b : ℕ) where
   -- the codes of a chain

@@ -18,10 +18,6 @@ use Rattle.meaning.proofs.Reaching.{reach?}
 use Rattle.meaning.proofs.Sets.{Spread, spread-closed, spread-consistent}
 use Rattle.meaning.proofs.Tests.{map?, or?, and?, somewhere?}
 
--- how much less
-less-by : (a b : ℕ) → a ≤ b → (k : ℕ) × (a + k ≡ b)
-less-by a b h = (b - a, omega arith)
-
 -- what is kept of r where choice j is raised: the codes of the choices before j that are true in r, and late j
 abbrev pub Kept : List ℕ → ℕ → ℕ → Type 0
 Kept r j c = ((choiceOf c < j) × True r c) ⊎ (c ≡ late j)
@@ -133,7 +129,7 @@ module _ (n : ℕ) (ws r : List ℕ) where
     raised : (j : ℕ) → j < n → ((i : ℕ) → j < i → NoneAt i) → getD r j 0 ≡ 0 → (Stuck ws r j → ⊥) → (s : List ℕ) × Next n ws r s
     unfolding Made
     raised j h none e free =
-        let k : (k : ℕ) × (suc j + k ≡ n) = less-by (suc j) n h in
+        let k : (k : ℕ) × (suc j + k ≡ n) = (n - suc j, omega arith) in
         let w = walk n ws range (reach? ws) possible (Base rota j) (k .0) (suc j) (Base rota j) (k .1) (base? rota j) (kept-grown rota j free) in
         (w .0, made-next rota j e h none (w .0) (w .1) (w .2) (w .3))
 
