@@ -2,21 +2,21 @@
 use Prim.Native.Nat.{ℕ, _+_, _*_, _≤_, _<_}
 use mathlib.Core.Path.{_≡_, refl}
 use mathlib.Core.Logic.{⊎-elim, _≢_}
+use mathlib.Core.Bool.{true, false}
 use mathlib.Core.List.{List}
 use native.Mathlib.Omega.{arith}
 use native.Mathlib.Numerals.{add-one}
 use lib.ListN.{length}
-use Rattle.components.specs.Leads.{leadOf, Leads, LowestOrNone, TiesPut}
+use Rattle.components.specs.Leads.{leadOf, Leads, SomeClash, TiesPut}
 use Rattle.components.specs.Walk.{State}
 use Rattle.meaning.specs.Chains.{Clash, LowestClash, Tied, Tie}
 use Rattle.meaning.specs.Codes.{late, early, opposite}
-use Rattle.meaning.specs.Rotas.{Possible, Impossible, First}
+use Rattle.meaning.specs.Rotas.{Possible, First}
 use Rattle.meaning.specs.Rules.{InRange}
 use Rattle.moves.specs.Layout.{mark}
 use Rattle.moves.specs.Lists.{Ready}
 use Rattle.components.proofs.Ways.{tied-flip, tied-join}
 use Rattle.meaning.proofs.AreaLaws.{Written, written-over}
-use Rattle.meaning.proofs.ChainLaws.{clash-impossible}
 use Rattle.meaning.proofs.CodeLaws.{opposite-below}
 use Rattle.meaning.proofs.General.{below-suc, build, length-build, getD-build}
 use Rattle.meaning.proofs.TwoSat.{possible-or-clash}
@@ -65,7 +65,7 @@ module _ {n : ℕ} {ws W : List ℕ} (h : Leads n ws W) (x y : ℕ) (lx : x < 2 
       let b : Tied ws y (leadOf n W x) = rw e (h .lead y ly .tied) in
       tied-join (h .lead x lx .tied) (tied-flip b)
 
--- the invariant of the loop of `lowest_clash`: the choices before v have codes with two marks
+-- the invariant of the loop of `some_clash`: the choices before v have codes with two marks
 pub record TwoMarks (n : ℕ) (W : List ℕ) (v : ℕ) : Type 0 where
   pub within : v ≤ n
   pub differ : (u : ℕ) → u < v → mark n W (late u) ≢ mark n W (early u)
@@ -83,29 +83,20 @@ marks-more {n} {v} {W} vn all now-too =
 free-before : {n v : ℕ} {W : List ℕ} → TwoMarks n W v → (ws : List ℕ) → Leads n ws W → (u : ℕ) → u < v → Clash ws u → ⊥
 free-before all ws h u l k = all .differ u l (tied-mark h (late u) (early u) (omega (arith, all .within)) (omega (arith, all .within)) k)
 
--- where they have one, it is the lowest choice that clashes
-pub lowest-found : {n v : ℕ} {W : List ℕ} → v < n → TwoMarks n W v → mark n W (late v) ≡ mark n W (early v) → (ws : List ℕ) → Leads n ws W → LowestOrNone n ws v
-lowest-found {n} {v} {W} vn all e ws h =
-    record {
-      within = all .within;
-      before = free-before all ws h;
-      clash = λ l. mark-tied h (late v) (early v) (omega arith) (omega arith) e;
-    }
+-- where they have one, the choice clashes
+pub clash-found : {n v : ℕ} {W : List ℕ} → v < n → mark n W (late v) ≡ mark n W (early v) → (ws : List ℕ) → Leads n ws W → SomeClash n ws true
+clash-found {n} {v} {W} vn e ws h = (v, mark-tied h (late v) (early v) (omega arith) (omega arith) e)
 
 -- at the end no choice clashes
-pub lowest-none : {n v : ℕ} {W : List ℕ} → n ≤ v → TwoMarks n W v → (ws : List ℕ) → Leads n ws W → LowestOrNone n ws v
-lowest-none nv all ws h = record { within = all .within; before = free-before all ws h; clash = λ l. absurd (omega arith) }
+pub clash-none : {n v : ℕ} {W : List ℕ} → n ≤ v → TwoMarks n W v → (ws : List ℕ) → Leads n ws W → SomeClash n ws false
+clash-none nv all ws h = λ u l. free-before all ws h u (omega arith)
 
--- a clash found: the list is impossible
-pub impossible-of : {n r : ℕ} {ws : List ℕ} → LowestOrNone n ws r → r < n → Impossible n ws
-impossible-of {n} {r} {ws} a l = clash-impossible n ws r (a .clash l)
-
--- and none found: it is possible
-pub possible-of : {n r : ℕ} {ws : List ℕ} → InRange n ws → LowestOrNone n ws r → n ≤ r → Possible n ws
-possible-of {n} {r} {ws} codes a l =
+-- where no choice clashes the list is possible
+pub possible-of : {n : ℕ} {ws : List ℕ} → InRange n ws → SomeClash n ws false → Possible n ws
+possible-of {n} {ws} codes free =
     ⊎-elim
     (λ (w : (xs : List ℕ) × First n ws xs). (w .0, w .1 .allowed))
-    (λ (w : (v : ℕ) × (v < n) × LowestClash ws v). absurd (a .before (w .0) (omega (arith, w .1)) (w .2 .clash)))
+    (λ (w : (v : ℕ) × (v < n) × LowestClash ws v). absurd (free (w .0) (w .1) (w .2 .clash)))
     (possible-or-clash n ws codes)
 
 -- what `put_ties` writes for choice u

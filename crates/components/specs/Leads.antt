@@ -1,5 +1,6 @@
 -- What the walk leaves for its callers: the smallest code that each code is tied to, and what is read off from it.
 use mathlib.Core.Path.{_≡_}
+use mathlib.Core.Bool.{Bool, true, false}
 use mathlib.Core.List.{List}
 use Prim.Native.Nat.{ℕ, _+_, _-_, _*_, _≤_, _<_}
 use lib.ListN.{length}
@@ -33,11 +34,10 @@ pub record Side (n : ℕ) (W W′ : List ℕ) : Type 0 where
   pub long : length W′ ≡ length W
   pub nexts : (e : ℕ) → next n W′ e ≡ next n W e
 
--- r is the lowest choice that clashes, or n where none of n choices does
-pub record LowestOrNone (n : ℕ) (ws : List ℕ) (r : ℕ) : Type 0 where
-  pub within : r ≤ n
-  pub before : (v : ℕ) → v < r → Clash ws v → ⊥
-  pub clash : r < n → Clash ws r
+-- some choice clashes, or none of n choices does
+abbrev pub SomeClash : ℕ → List ℕ → Bool → Type 0
+SomeClash n ws true = (v : ℕ) × Clash ws v
+SomeClash n ws false = (v : ℕ) → v < n → Clash ws v → ⊥
 
 -- the ties are written at the front of the area: those of any list whose leads the marks tell
 pub record TiesPut (n : ℕ) (W area area′ : List ℕ) : Type 0 where

@@ -10,22 +10,22 @@ ghost use Prim.Native.Nat.{ℕ, _≤_};
 ghost use lib.ListN.{length};
 ghost use Rattle.meaning.specs.Sizes.{maxChoices, tiesNeed};
 ghost use Rattle.moves.specs.Layout.{Tables};
-ghost use Rattle.components.specs.Leads.{Leads, AllSettled, LowestOrNone, TiesPut};
+ghost use Rattle.components.specs.Leads.{Leads, AllSettled, SomeClash, TiesPut};
 
-// The lowest choice that clashes, or n.
-pub fn lowest_clash(n: usize, work: &[u16]) -> usize
+// Does some choice clash?
+pub fn some_clash(n: usize, work: &[u16]) -> bool
     requires { ⌜ (n ≤ maxChoices) × Tables n (now work) ⌝ }
-    ensures { λ r. ⌜ ((ws : List ℕ) → Leads n ws (now (work .entry)) → LowestOrNone n ws r) ⌝ }
+    ensures { λ r. ⌜ ((ws : List ℕ) → Leads n ws (now (work .entry)) → SomeClash n ws r) ⌝ }
 {
     let mut v = 0;
     while v < n {
         let late = Code::of(Choice(narrow(v)), 1);
         if mark_of(n, work, late) == mark_of(n, work, late.opposite()) {
-            return v;
+            return true;
         }
         v += 1;
     }
-    v
+    false
 }
 
 // The tie of each choice is written at the front of the area.

@@ -1,8 +1,9 @@
 -- How each call keeps its promise: from what its moves found, what was written and what was cleared.
 use mathlib.Core.Path.{_≡_, refl, sym, _∙_}
 use mathlib.Core.Logic.{⊎-elim}
+use mathlib.Core.Bool.{true, false}
 use mathlib.Core.List.{List, []}
-use Prim.Native.Nat.{ℕ, _*_, _<_, _≤_}
+use Prim.Native.Nat.{ℕ, _*_}
 use native.Mathlib.Omega.{arith}
 use lib.ListN.{length, take, List·getD-eq-default}
 use lib.Seq.{length-take-le}
@@ -19,7 +20,7 @@ use Rattle.meaning.specs.Rotas.{Rota, Possible, Forced}
 use Rattle.meaning.specs.Sizes.{rotaNeeds, chainsNeed, tiesNeed, over, cleared}
 use Rattle.moves.specs.Walks.{Undone}
 use Rattle.chains.specs.Traces.{Chained}
-use Rattle.components.specs.Leads.{Leads, Side, LowestOrNone, TiesPut}
+use Rattle.components.specs.Leads.{Leads, Side, SomeClash, TiesPut}
 use Rattle.search.specs.Search.{Settles, Halts}
 use Rattle.search.specs.State.{rotaOf, Around}
 use Rattle.rounds.specs.Rounds.{Swept, forcedOf}
@@ -29,7 +30,7 @@ use Rattle.meaning.proofs.General.{below-or-from}
 use Rattle.meaning.proofs.Keeping.{keeps-answer, keeps-refusal}
 use Rattle.meaning.proofs.RefusalLaws.{next-accepted}
 use Rattle.chains.proofs.Both.{both-chains}
-use Rattle.components.proofs.Answers.{impossible-of, possible-of}
+use Rattle.components.proofs.Answers.{possible-of}
 use Rattle.search.proofs.Searching.{around-trans, apart-around, found-first, found-clash}
 use Rattle.rounds.proofs.Forcing.{bytes-right}
 use Rattle.engine.proofs.Preparing.{cleared-last}
@@ -106,15 +107,15 @@ module _ (n : ℕ) (ws area W W₁ : List ℕ) (fine : Due.none ≡ listDue n ws
   abbrev due-ties : Due
   due-ties = listDue n ws (length area) (tiesNeed n) (length W)
 
-  pub ties-written : (area′ : List ℕ) (r : ℕ) → Leads n ws W₂ → n ≤ r → LowestOrNone n ws r → TiesPut n W₂ area area′ → TiesUp n ws area W Listed.Done area′ W₃
-  ties-written area′ r leads h low put =
+  pub ties-written : (area′ : List ℕ) → Leads n ws W₂ → SomeClash n ws false → TiesPut n W₂ area area′ → TiesUp n ws area W Listed.Done area′ W₃
+  ties-written area′ leads free put =
       answers listedRefusal (ListedSays n ws (Tie ws)) due-ties n ws area W W₁ fine p Listed.Done (put .items) W₂ W₃ area′ refl
-      (possible-of (p .state .ready .sizes .codes) low h, put .ties ws leads) side (put .written) clear
+      (possible-of (p .state .ready .sizes .codes) free, put .ties ws leads) side (put .written) clear
 
-  pub ties-none : (r : ℕ) → r < n → LowestOrNone n ws r → TiesUp n ws area W Listed.Impossible area W₃
-  ties-none r h low =
+  pub ties-none : SomeClash n ws true → TiesUp n ws area W Listed.Impossible area W₃
+  ties-none some =
       answers listedRefusal (ListedSays n ws (Tie ws)) due-ties n ws area W W₁ fine p Listed.Impossible [] W₂ W₃ area refl
-      (impossible-of low h, refl) side refl clear
+      (clash-impossible n ws (some .0) (some .1), refl) side refl clear
 
 -- Next: the given bytes are a rota
 pub next-rota : (n : ℕ) (ws area : List ℕ) (work : ℕ) → Due.none ≡ nextDue n ws area work → Rota n (take n area)

@@ -5,8 +5,8 @@ use areas::finish;
 use chains::chain::chain;
 use checks::refuse::Checked;
 use checks::refuse::chains_need;
-use components::ties::lowest_clash;
 use components::ties::put_ties;
+use components::ties::some_clash;
 use components::walk::components;
 use meaning::Choice;
 use meaning::Clashed;
@@ -104,7 +104,7 @@ pub fn ties(n: usize, words: &[u16], area: &mut [u16], work: &mut [u16]) -> List
         return Listed::Refused(refusal);
     }
     components(n, words, work);
-    if lowest_clash(n, work) < n {
+    if some_clash(n, work) {
         finish(n, words, work);
         return Listed::Impossible;
     }

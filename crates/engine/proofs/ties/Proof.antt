@@ -27,8 +27,8 @@ components-requires : tie.Need-components-requires
 components-requires c κs = let b = rw ((c .before .enum-told) .given .1) at ((c .before .before .before .before .before .begin) .ensures) in
     (b .1 .state .ready, b .1 .unmarked)
 
-lowest-clash-requires : tie.Need-lowest-clash-requires
-lowest-clash-requires c κs = let b = rw ((c .before .before .before .before .before .enum-told) .given .1) at ((c .before .before .before .before .before .before .before .before .before .begin) .ensures) in
+some-clash-requires : tie.Need-some-clash-requires
+some-clash-requires c κs = let b = rw ((c .before .before .before .before .before .enum-told) .given .1) at ((c .before .before .before .before .before .before .before .before .before .begin) .ensures) in
     let s = b .1 .state .ready .sizes in
     (s .few, omega (arith, s .room, (c .before .before .before .components) .ensures .0 .long))
 
@@ -41,7 +41,7 @@ same-length-2 c = search needs
 
 returns-2 : tie.Need-returns-2
 returns-2 c = let b = rw ((c .before .before .before .before .before .before .before .before .before .before .before .enum-told) .given .1) at ((c .before .before .before .before .before .before .before .before .before .before .before .before .before .before .before .begin) .ensures) in
-    ties-none _ _ _ _ _ (b .0) (b .1) _ _ ((c .before .before .before .before .before .before .before .before .before .components) .ensures .0) ((c .before .before .finish) .ensures) _ ((c .before .before .before .before .if1) .taken) ((c .before .before .before .before .before .lowest-clash) .ensures _ ((c .before .before .before .before .before .before .before .before .before .components) .ensures .1))
+    ties-none _ _ _ _ _ (b .0) (b .1) _ _ ((c .before .before .before .before .before .before .before .before .before .components) .ensures .0) ((c .before .before .finish) .ensures) (rw ((c .before .before .before .before .if1) .taken) at ((c .before .before .before .before .before .some-clash) .ensures _ ((c .before .before .before .before .before .before .before .before .before .components) .ensures .1)))
 
 put-ties-requires : tie.Need-put-ties-requires
 put-ties-requires c κs = let b = rw ((c .before .before .before .before .before .before .before .before .before .enum-told) .given .1) at ((c .before .before .before .before .before .before .before .before .before .before .before .before .before .begin) .ensures) in
@@ -60,7 +60,7 @@ same-length-4 c = search needs
 
 returns-3 : tie.Need-returns-3
 returns-3 c = let b = rw ((c .before .before .before .before .before .before .before .before .before .before .before .before .before .before .before .before .enum-told) .given .1) at ((c .before .before .before .before .before .before .before .before .before .before .before .before .before .before .before .before .before .before .before .before .begin) .ensures) in
-    ties-written _ _ _ _ _ (b .0) (b .1) _ _ ((c .before .before .before .before .before .before .before .before .before .before .before .before .before .before .components) .ensures .0) ((c .before .before .finish2) .ensures) _ _ ((c .before .before .before .before .before .before .before .before .before .before .before .before .before .before .components) .ensures .1) (omega arith) ((c .before .before .before .before .before .before .before .before .before .before .lowest-clash) .ensures _ ((c .before .before .before .before .before .before .before .before .before .before .before .before .before .before .components) .ensures .1)) ((c .before .before .before .before .before .before .put-ties) .ensures)
+    ties-written _ _ _ _ _ (b .0) (b .1) _ _ ((c .before .before .before .before .before .before .before .before .before .before .before .before .before .before .components) .ensures .0) ((c .before .before .finish2) .ensures) _ ((c .before .before .before .before .before .before .before .before .before .before .before .before .before .before .components) .ensures .1) (rw ((c .before .before .before .before .before .before .before .before .before .if1) .left) at ((c .before .before .before .before .before .before .before .before .before .before .some-clash) .ensures _ ((c .before .before .before .before .before .before .before .before .before .before .before .before .before .before .components) .ensures .1))) ((c .before .before .before .before .before .before .put-ties) .ensures)
 
 pub ties-spec : {M : Type 1} → statement M
 ties-spec =
@@ -72,7 +72,7 @@ ties-spec =
     returns
     enum-told
     components-requires
-    lowest-clash-requires
+    some-clash-requires
     finish-requires
     same-length-2
     returns-2

@@ -1,15 +1,14 @@
--- `lowest_clash` meets its contract. The invariant: the codes of the choices passed have two marks.
+-- `some_clash` meets its contract. The invariant: the codes of the choices passed have two marks.
 use Prim.Native.Nat.{_-_}
 use mathlib.Core.Path.{_≡_, sym, ap, _∙_}
 use native.Mathlib.Omega.{arith}
 use borrow.Author.Needs.{needs}
 use denote.Ref.{now}
-use Rattle.components.proofs.ties.lowest_clash.Statement.{statement}
-use Rattle.components.proofs.ties.lowest_clash.Tie as tie
-use Rattle.components.specs.Walk.{left}
+use Rattle.components.proofs.ties.some_clash.Statement.{statement}
+use Rattle.components.proofs.ties.some_clash.Tie as tie
 use Rattle.meaning.specs.Codes.{late, early, opposite}
 use Rattle.moves.specs.Layout.{mark}
-use Rattle.components.proofs.Answers.{TwoMarks, marks-none, marks-more, lowest-found, lowest-none}
+use Rattle.components.proofs.Answers.{TwoMarks, marks-none, marks-more, clash-found, clash-none}
 use Rattle.meaning.proofs.CodeLaws.{opposite-late}
 
 abbrev Inv-loop : tie.InvT-loop
@@ -53,7 +52,7 @@ mark-of-requires-2 : tie.Need-mark-of-requires-2 Inv-loop μ-loop
 mark-of-requires-2 c κs = omega (arith, facing (c))
 
 returns : tie.Need-returns Inv-loop μ-loop
-returns c = lowest-found ((c .before .before .before .before .before .before .loop-test) .taken) ((c .before .before .before .before .before .before .before .loop) .inv) (sym (first (c .before .before .before)) ∙ (c .if1) .taken ∙ second (c .before))
+returns c = clash-found ((c .before .before .before .before .before .before .loop-test) .taken) (sym (first (c .before .before .before)) ∙ (c .if1) .taken ∙ second (c .before))
 
 add-v : tie.Need-add-v Inv-loop μ-loop
 add-v c = omega arith
@@ -65,10 +64,10 @@ loop-again : tie.Need-loop-again Inv-loop μ-loop
 loop-again c = marks-more ((c .before .before .before .before .before .before .loop-test) .taken) ((c .before .before .before .before .before .before .before .loop) .inv) (λ e. (c .if1) .left (first (c .before .before .before) ∙ e ∙ sym (second (c .before))))
 
 returns-2 : tie.Need-returns-2 Inv-loop μ-loop
-returns-2 c = lowest-none (omega arith) ((c .before .loop) .inv)
+returns-2 c = clash-none (omega arith) ((c .before .loop) .inv)
 
-pub lowest-clash-spec : {M : Type 1} → statement M
-lowest-clash-spec =
+pub some-clash-spec : {M : Type 1} → statement M
+some-clash-spec =
     tie.close
     (tie.spec
     Inv-loop
