@@ -1,24 +1,19 @@
 -- The promise on three books: case J's, case G's and the empty one, and an area that is too short.
-use mathlib.Core.Path.{_≡_, refl}
+use mathlib.Core.Path.{refl}
 use mathlib.Core.Logic.{inl, inr}
-use mathlib.Core.List.{List, [], _∷_}
-use Prim.Native.Nat.{ℕ}
+use mathlib.Core.List.{[], _∷_}
 use native.Mathlib.Omega.{arith}
 use native.Mathlib.Decide.{ℕ-discrete, decLe, decLt}
 use lib.ListN.{getD, replicate}
 use Rattle.meaning.specs.Rotas.{Forced}
 use Rattle.meaning.specs.Sizes.{over}
-use Rattle.meaning.specs.Table.{Right, Case, caseG, caseJ}
+use Rattle.meaning.specs.Table.{Right, caseG, caseJ}
 use Rattle.meaning.proofs.Marked.{marked}
 use Rattle.meaning.proofs.Tests.{shown, below?, forced?}
 use Rattle.book.specs.Checks.{bookDue}
 use Rattle.lines.specs.declared.answer.Shown.{Shown}
 use Rattle.lines.specs.Text.{digits, numbersLine, possibleText, impossibleText, refusalText}
-use Rattle.lines.specs.Promise.{wordsRoom, workRoom, BookText, Shows}
-
--- wordsRoom and workRoom: what the local arrays of src/answer.rt hold
-pub rooms : (wordsRoom ≡ 4096) × (workRoom ≡ 14352)
-rooms = (refl, refl)
+use Rattle.lines.specs.Promise.{BookText, Shows}
 
 rightG : Right (caseG .n) (caseG .ws) (caseG .answer)
 rightG = marked .1 .1 .1 .1 .1 .1 .0

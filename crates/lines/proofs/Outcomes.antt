@@ -7,13 +7,13 @@ use native.Mathlib.Omega.{arith}
 use lib.ListN.{length, getD}
 use lib.Seq.{ext-getD}
 use Rattle.meaning.specs.Codes.{late, early}
-use Rattle.meaning.specs.Sizes.{over}
+use Rattle.meaning.specs.Sizes.{over, wordsRoom}
 use Rattle.meaning.specs.Refusals.{Due, none, refused}
 use Rattle.meaning.proofs.Unique.{first-unique, forced-unique, shortest-unique, lowest-unique, first-or-clash}
 use Rattle.book.specs.Checks.{choicesIn, codesIn, bookDue}
 use Rattle.lines.specs.declared.answer.Shown.{Shown}
 use Rattle.lines.proofs.Telling.{items-fit}
-use Rattle.lines.specs.Promise.{wordsRoom, PossibleTold, ImpossibleTold, ListText, DueText, BookText, Leaves, Shows}
+use Rattle.lines.specs.Promise.{PossibleTold, ImpossibleTold, ListText, DueText, BookText, Leaves, Shows}
 
 module _ (n : ℕ) (ws : List ℕ) where
   -- of a possible list

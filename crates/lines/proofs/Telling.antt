@@ -16,7 +16,7 @@ use Rattle.meaning.specs.Codes.{late, early}
 use Rattle.meaning.specs.Rules.{rules, InRange}
 use Rattle.meaning.specs.Rotas.{First, Forced, Impossible}
 use Rattle.meaning.specs.Chains.{Chain}
-use Rattle.meaning.specs.Sizes.{maxChoices, maxRules, rotaNeeds, chainsNeed, workNeeds, over}
+use Rattle.meaning.specs.Sizes.{maxChoices, maxRules, rotaNeeds, chainsNeed, workNeeds, over, wordsRoom, workRoom}
 use Rattle.meaning.specs.Refusals.{Due, none, numberOf, placeOf, listDue}
 use Rattle.meaning.specs.Promises.{Answered, Keeps, decidedRefusal, DecideSays, Decides, listedRefusal, ListedSays, Each, Forces, clashedRefusal, ClashSays, BothChains, Clashes}
 use Rattle.meaning.proofs.ChainLaws.{clash-impossible}
@@ -28,7 +28,7 @@ use Rattle.book.specs.declared.answer.Read.{Read}
 use Rattle.book.specs.Promise.{Reads}
 use Rattle.lines.specs.Text.{possibleText, impossibleText, refusalText}
 use Rattle.lines.specs.Inner.{Room, Puts}
-use Rattle.lines.specs.Promise.{textNeeds, wordsRoom, workRoom, ListText, BookText, Leaves}
+use Rattle.lines.specs.Promise.{textNeeds, ListText, BookText, Leaves}
 use Rattle.lines.proofs.Putting.{puts-over}
 use Rattle.lines.proofs.Lengths.{possible-short, impossible-short}
 

@@ -9,7 +9,7 @@ use Rattle.meaning.specs.Codes.{late, early}
 use Rattle.meaning.specs.Rules.{rules}
 use Rattle.meaning.specs.Rotas.{First, Forced}
 use Rattle.meaning.specs.Chains.{LowestClash, Shortest}
-use Rattle.meaning.specs.Sizes.{maxChoices, maxRules, over}
+use Rattle.meaning.specs.Sizes.{wordsRoom, over}
 use Rattle.meaning.specs.Refusals.{Due, none, refused}
 use Rattle.meaning.specs.Promises.{Each}
 use Rattle.book.specs.Checks.{choicesIn, codesIn, bookDue}
@@ -19,14 +19,6 @@ use Rattle.lines.specs.Text.{possibleText, impossibleText, refusalText}
 -- the least length of the lent area: no text is longer
 abbrev pub textNeeds : ℕ
 textNeeds = 5200
-
--- the words that a book is read into are enough for every list
-abbrev pub wordsRoom : ℕ
-wordsRoom = 2 * maxRules
-
--- and so are the work area's
-abbrev pub workRoom : ℕ
-workRoom = 8 * maxChoices + 6 * maxRules + 16
 
 -- the list is possible, and the text is that of its first rota and its forced bytes
 pub record PossibleTold (n : ℕ) (ws text : List ℕ) : Type 0 where

@@ -3,14 +3,19 @@ use crate::text::put_impossible;
 use crate::text::put_possible;
 use crate::text::put_refusal;
 use book::Read;
+use meaning::CHAINS_ROOM;
 use meaning::Clashed;
 use meaning::Decided;
 use meaning::Listed;
+use meaning::ROTA_ROOM;
+use meaning::WORDS_ROOM;
+use meaning::WORK_ROOM;
 ghost use Prim.Native.Nat.{_*_, _≤_};
 ghost use lib.ListN.{length};
 ghost use Rattle.meaning.specs.Rotas.{First, Impossible};
+ghost use Rattle.meaning.specs.Sizes.{wordsRoom, workRoom};
 ghost use Rattle.book.specs.Saved.{Savable};
-ghost use Rattle.lines.specs.Promise.{Leaves, ListText, Shows, textNeeds, wordsRoom, workRoom};
+ghost use Rattle.lines.specs.Promise.{Leaves, ListText, Shows, textNeeds};
 
 // The length of the text, or that the area is shorter than any text may be.
 pub enum Shown {
@@ -24,7 +29,7 @@ fn tell_possible(n: usize, words: &[u16], rota: &[u8], work: &mut [u16], out: &m
     requires { ⌜ First n (now words) (now rota) ⌝ }
     ensures { λ r. ⌜ Leaves (ListText n (now (words .entry))) (now (out .entry)) r (now (out .exit)) ⌝ }
 {
-    let mut forced = [0u8; 256];
+    let mut forced = [0u8; ROTA_ROOM];
     let listed = engine::forced(n, words, &mut forced, work);
     match listed {
         Listed::Done => put_possible(out, n, words.len() / 2, rota, &forced[..n]),
@@ -39,7 +44,7 @@ fn tell_impossible(n: usize, words: &[u16], work: &mut [u16], out: &mut [u8]) ->
     requires { ⌜ Impossible n (now words) ⌝ }
     ensures { λ r. ⌜ Leaves (ListText n (now (words .entry))) (now (out .entry)) r (now (out .exit)) ⌝ }
 {
-    let mut chains = [0u16; 1024];
+    let mut chains = [0u16; CHAINS_ROOM];
     let clashed = engine::clash(n, words, &mut chains, work);
     match clashed {
         Clashed::Chains {
@@ -60,8 +65,8 @@ fn tell_list(n: usize, words: &[u16], out: &mut [u8]) -> usize
     requires { ⌜ Savable n (now words) wordsRoom × (textNeeds ≤ length (now out)) ⌝ }
     ensures { λ r. ⌜ Leaves (ListText n (now (words .entry))) (now (out .entry)) r (now (out .exit)) ⌝ }
 {
-    let mut work = [0u16; 14352];
-    let mut rota = [0u8; 256];
+    let mut work = [0u16; WORK_ROOM];
+    let mut rota = [0u8; ROTA_ROOM];
     let decided = engine::decide(n, words, &mut rota, &mut work);
     match decided {
         Decided::Possible => tell_possible(n, words, &rota[..n], &mut work, out),
@@ -77,7 +82,7 @@ pub fn show(book: &[u8], out: &mut [u8]) -> Shown
     if out.len() < crate::ROOM {
         return Shown::TooShort;
     }
-    let mut words = [0u16; 4096];
+    let mut words = [0u16; WORDS_ROOM];
     match book::read(book, &mut words) {
         Read::Refused(refusal) => Shown::Text(put_refusal(out, refusal)),
         Read::Book { n, m } => {

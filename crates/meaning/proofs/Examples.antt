@@ -1,7 +1,7 @@
 -- Each definition of specs/ that the marked table does not compute, tried on a small input. Areas hold 7 before a call, so that what stays is seen.
 use mathlib.Core.Path.{_≡_, refl}
 use mathlib.Core.List.{List, [], _∷_, _++_}
-use Prim.Native.Nat.{ℕ}
+use Prim.Native.Nat.{ℕ, _+_, _*_}
 use native.Mathlib.Omega.{arith}
 use native.Mathlib.Decide.{ℕ-discrete, decLe, decLt}
 use lib.ListN.{getD, replicate}
@@ -17,7 +17,7 @@ use Rattle.meaning.specs.Refusals.{Due, none, refused, asDue, listDue, n
 use Rattle.meaning.specs.Rotas.{Forced}
 use Rattle.meaning.specs.Rules.{InRange, left, right, rules}
 use Rattle.meaning.specs.Runs.{Run, EveryRota}
-use Rattle.meaning.specs.Sizes.{rotaNeeds, chainsNeed, tiesNeed, workNeeds, over, cleared}
+use Rattle.meaning.specs.Sizes.{maxChoices, maxRules, wordsRoom, workRoom, rotaNeeds, chainsNeed, tiesNeed, workNeeds, over, cleared}
 use Rattle.meaning.specs.Table.{Right, Case, caseA, caseB, caseD, caseF, caseG, caseI, caseJ, caseK}
 use Rattle.meaning.proofs.EveryRotaOnce.{every-rota-once}
 use Rattle.meaning.proofs.Marked.{marked}
@@ -38,6 +38,10 @@ out-of-range h = omega (arith, h 0 (omega arith) .1)
 -- rotaNeeds, chainsNeed, tiesNeed, workNeeds: of three choices and three rules
 pub needs : (rotaNeeds 3 ≡ 3) × (chainsNeed 3 ≡ 12) × (tiesNeed 3 ≡ 3) × (workNeeds 3 (caseJ .ws) ≡ 58)
 needs = (refl, refl, refl, refl)
+
+-- wordsRoom and workRoom: the largest list fits, with nothing left
+pub rooms : (wordsRoom ≡ 2 * maxRules) × (workRoom ≡ 8 * maxChoices + 6 * maxRules + 16)
+rooms = (refl, refl)
 
 -- over: two items in front of what stays. cleared: sixteen zeros for no choices and no rules, and the seventeenth word stays
 pub over-stays : over (1 ∷ 2 ∷ []) (7 ∷ 7 ∷ 7 ∷ []) ≡ 1 ∷ 2 ∷ 7 ∷ []

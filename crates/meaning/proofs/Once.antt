@@ -19,7 +19,7 @@ use Rattle.meaning.specs.Rules.{right}
 use Rattle.meaning.specs.Sizes.{rotaNeeds, chainsNeed, tiesNeed, over}
 use Rattle.meaning.proofs.ChainLaws.{clash-impossible}
 use Rattle.meaning.proofs.RefusalLaws.{named, due-named}
-pub use Rattle.meaning.proofs.RefusalLaws.{not-refused}
+use Rattle.meaning.proofs.RefusalLaws.{not-refused}
 use Rattle.meaning.proofs.TwoSat.{lowest}
 use Rattle.meaning.proofs.Unique.{first-unique, next-unique, next-not-ended, forced-unique, shortest-unique, lowest-unique, tie-unique}
 

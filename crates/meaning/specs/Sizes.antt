@@ -23,6 +23,13 @@ tiesNeed n = n
 abbrev pub workNeeds : ℕ → List ℕ → ℕ
 workNeeds n ws = 8 * n + 6 * rules ws + 16
 
+-- the areas of those who bring their own, the printing library and the host's calls: the words of a book's rules, and the work area
+abbrev pub wordsRoom : ℕ
+wordsRoom = 4096
+
+abbrev pub workRoom : ℕ
+workRoom = 14352
+
 -- an area with xs written at its front: what is past them stays
 abbrev pub over : List ℕ → List ℕ → List ℕ
 over xs area = xs ++ drop (length xs) area

@@ -3,6 +3,7 @@
 mod answers; // what each call on a list answers
 mod codes; // the three kinds of count, and the code's own functions
 mod refusal; // what went wrong, and where
+mod rooms; // the areas of those who bring their own
 
 pub use answers::Clashed;
 pub use answers::Decided;
@@ -12,3 +13,7 @@ pub use codes::Choice;
 pub use codes::Code;
 pub use codes::RuleNo;
 pub use refusal::Refusal;
+pub use rooms::CHAINS_ROOM;
+pub use rooms::ROTA_ROOM;
+pub use rooms::WORDS_ROOM;
+pub use rooms::WORK_ROOM;

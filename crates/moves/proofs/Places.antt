@@ -8,7 +8,6 @@ use lib.ListN.{length, set, length-set}
 use lib.Seq.{getD-set-same, getD-set-other}
 use Rattle.moves.specs.Layout.{headAt, markAt, trailAt, spareAt, nextAt, head, mark, trail, spare, next, Tables, Sizes, Apart, Spared}
 use Rattle.moves.specs.Lists.{Ready}
-pub use Rattle.meaning.proofs.General.{same?}
 
 -- nothing differs; and what differs nowhere in two turns differs nowhere in both
 pub apart-refl : (n : ℕ) (W : List ℕ) → Apart n W W

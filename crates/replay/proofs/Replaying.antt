@@ -17,11 +17,12 @@ use Rattle.moves.specs.Lists.{Ready}
 use Rattle.moves.specs.Trials.{Grew, GaveUp}
 use Rattle.moves.specs.Walks.{Listed, Held, Holding, Undone}
 use Rattle.search.proofs.Searching.{around-refl, around-trans, apart-around}
+use Rattle.meaning.proofs.General.{same?}
 use Rattle.meaning.proofs.ChainLaws.{reach-refl, never-both, reach-sound}
 use Rattle.meaning.proofs.CodeLaws.{code-of-parts}
 use Rattle.meaning.proofs.NextLaws.{Kept, NoneAt, stuck-none, late-none, past-none}
 use Rattle.meaning.proofs.Sets.{closed-reach}
-use Rattle.moves.proofs.Places.{same?, apart-refl, spare-stored, spare-elsewhere, spare-spared, tables}
+use Rattle.moves.proofs.Places.{apart-refl, spare-stored, spare-elsewhere, spare-spared, tables}
 use Rattle.moves.proofs.Sharing.{listed-spared}
 use Rattle.moves.proofs.Trails.{trail-few}
 use Rattle.moves.proofs.Trying.{holding-none}

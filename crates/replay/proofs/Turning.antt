@@ -19,11 +19,11 @@ use Rattle.search.proofs.Following.{rota-of, rota-follows}
 use Rattle.replay.proofs.Replaying.{stands-same}
 use Rattle.search.proofs.Searching.{around-trans, apart-around, ready-around, known-none, undone-all, found-first}
 use Rattle.meaning.proofs.ChainLaws.{late-true, early-true, clash-impossible}
-use Rattle.meaning.proofs.General.{below-suc}
+use Rattle.meaning.proofs.General.{below-suc, same?}
 use Rattle.meaning.proofs.Growing.{Grown, grown-allowed, grown-true, grown-must}
 use Rattle.meaning.proofs.NextLaws.{Kept, none-ended, made-next}
 use Rattle.meaning.proofs.Sets.{closed-reach, Spread}
-use Rattle.moves.proofs.Places.{same?, spared-refl, spared-trans, spare-stored, spare-elsewhere, spare-spared}
+use Rattle.moves.proofs.Places.{spared-refl, spared-trans, spare-stored, spare-elsewhere, spare-spared}
 use Rattle.moves.proofs.Sharing.{listed-spared}
 use Rattle.moves.proofs.Trails.{trail-few}
 use Rattle.moves.proofs.Trying.{holding-none}

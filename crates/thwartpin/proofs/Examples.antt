@@ -11,7 +11,7 @@ use Rattle.meaning.specs.declared.answers.Clashed.{Clashed}
 use Rattle.meaning.specs.declared.answers.Moved.{Moved}
 use Rattle.meaning.specs.declared.refusal.Refusal.the-variants.{CodeTooHigh, BookEnds, ValueTooHigh}
 use Rattle.meaning.specs.Refusals.{listDue, nextDue}
-use Rattle.meaning.specs.Sizes.{cleared}
+use Rattle.meaning.specs.Sizes.{cleared, workRoom}
 use Rattle.meaning.specs.Table.{Right, Case, caseB, caseF, caseG, caseI, caseJ, caseK}
 use Rattle.meaning.proofs.Examples.{decide-K, force-J, tie-F, clash-G, move-I}
 use Rattle.meaning.proofs.Marked.{marked}
@@ -19,7 +19,7 @@ use Rattle.book.specs.declared.answer.Read.{Read}
 use Rattle.book.specs.Checks.{bookDue}
 use Rattle.thwartpin.specs.Numbers.{decidedNumber, decidedValues, listedNumber, listedValues, clashedNumber, clashedValues, movedNumber, movedValues, readNumber, readValues, hostDecided, hostMoved}
 use Rattle.thwartpin.specs.Lists.{areas, TellsDecided, TellsForced, TellsClash, TellsMoved, TellsTies, TellsRead}
-use Rattle.thwartpin.specs.Hosts.{hostWork, HostDecides, HostMoves}
+use Rattle.thwartpin.specs.Hosts.{HostDecides, HostMoves}
 
 -- the number and the values of an answer of each call
 pub numbers : (decidedNumber (Decided.Impossible (record { 0 = 5 })) ≡ 100)
@@ -81,7 +81,7 @@ host-decide =
     inr (record {
       good = refl;
       answer = Decided.Possible;
-      work′ = cleared 1 [] (replicate hostWork 0);
+      work′ = cleared 1 [] (replicate workRoom 0);
       kept = record { refuses = refl; after = record { items = 0 ∷ []; right = rightB .1 .0; written = refl; zeros = refl } };
       numbered = refl;
     })
@@ -92,7 +92,7 @@ host-next =
     inr (record {
       good = refl;
       answer = Moved.Moved;
-      work′ = cleared 1 [] (replicate hostWork 0);
+      work′ = cleared 1 [] (replicate workRoom 0);
       kept = record { refuses = refl; after = record { items = 1 ∷ []; right = rightB .1 .1 .0; written = refl; zeros = refl } };
       numbered = refl;
     })

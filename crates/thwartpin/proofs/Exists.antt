@@ -9,8 +9,8 @@ use Rattle.book.specs.Promise.{Reads}
 use Rattle.book.specs.declared.answer.Read.{Read}
 use Rattle.meaning.specs.Promises.{Decides, Forces, TiesUp, Clashes, Moves}
 use Rattle.meaning.specs.Refusals.{numberOf}
-use Rattle.meaning.specs.Sizes.{over}
-use Rattle.thwartpin.specs.Hosts.{hostWords, hostWork, Turned, Called, HostDecides, HostMoves}
+use Rattle.meaning.specs.Sizes.{over, wordsRoom, workRoom}
+use Rattle.thwartpin.specs.Hosts.{Turned, Called, HostDecides, HostMoves}
 use Rattle.thwartpin.specs.Lists.{outNeeds, outShort, Areas, areas, Tells, On, TellsDecided, TellsForced, TellsClash, TellsMoved, TellsTies, TellsRead}
 use Rattle.thwartpin.specs.Numbers.{decidedNumber, decidedValues, listedNumber, listedValues, clashedNumber, clashedValues, movedNumber, movedValues, readNumber, readValues, hostDecided, hostMoved}
 use Rattle.book.proofs.Outcomes.{reads-exists}
@@ -62,11 +62,11 @@ module _ {A : Type 0} (number : A → ℕ) (promise : ℕ → List ℕ → List 
   by-reading : (a : Read) (words′ : List ℕ) → Reads book fresh a words′ →
       (r : ℕ) × (rota′ : List ℕ) × (Turned book rota r rota′ ⊎ Called number promise book rota r rota′)
   by-reading (Read.Book n m) words′ p =
-      let o = exists (choicesIn book) (codesIn book) rota (replicate hostWork 0) in (
+      let o = exists (choicesIn book) (codesIn book) rota (replicate workRoom 0) in (
         number (o .0),
         o .1,
         inr (record {
-          good = sym (p .refuses ∙ ap (bookDue book) (length-replicate {A = ℕ} hostWords 0));
+          good = sym (p .refuses ∙ ap (bookDue book) (length-replicate {A = ℕ} wordsRoom 0));
           answer = o .0;
           work′ = o .2;
           kept = o .3;

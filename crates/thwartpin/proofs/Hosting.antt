@@ -9,16 +9,17 @@ use Rattle.book.specs.declared.answer.Read.{Read}
 use Rattle.book.specs.Checks.{bookDue}
 use Rattle.book.specs.Promise.{Reads}
 use Rattle.meaning.specs.Refusals.{numberOf}
-use Rattle.thwartpin.specs.Hosts.{hostWords, hostWork, Turned, Called}
+use Rattle.thwartpin.specs.Hosts.{Turned, Called}
+use Rattle.meaning.specs.Sizes.{wordsRoom, workRoom}
 use Rattle.book.proofs.GivenLists.{read-is-list}
 
 -- the words before the book is read
 abbrev pub fresh : List ℕ
-fresh = replicate hostWords 0
+fresh = replicate wordsRoom 0
 
 module _ (book : List ℕ) (words′ : List ℕ) where
   -- the words of the book are within the room
-  pub within : (n m : ℕ) → Reads book fresh (Read.Book n m) words′ → 2 * m ≤ hostWords
+  pub within : (n m : ℕ) → Reads book fresh (Read.Book n m) words′ → 2 * m ≤ wordsRoom
   within n m r =
       let l = read-is-list book fresh n m words′ r in
       omega (arith, l .count, l .savable .few)
@@ -32,16 +33,16 @@ module _ (book : List ℕ) (words′ : List ℕ) where
   -- the book is refused
   pub turned : (rota : List ℕ) (x : ℕ) (refusal : Refusal) → Reads book fresh (Read.Refused refusal) words′ → x ≡ numberOf refusal → Turned book rota x rota
   turned rota x refusal r e =
-      record { refusal = refusal; due = sym (r .refuses ∙ ap (bookDue book) (length-replicate {A = ℕ} hostWords 0)); number = e; stays = refl }
+      record { refusal = refusal; due = sym (r .refuses ∙ ap (bookDue book) (length-replicate {A = ℕ} wordsRoom 0)); number = e; stays = refl }
 
   -- the book is good, and the call keeps its promise on the words that were read
   pub called : {A : Type 0} (number : A → ℕ) (promise : ℕ → List ℕ → List ℕ → List ℕ → A → List ℕ → List ℕ → Type 0) (rota : List ℕ) (n m : ℕ) (a : A)
       (rota′ work′ : List ℕ) (x : ℕ) → Reads book fresh (Read.Book n m) words′ →
-      promise n (take (2 * m) words′) rota (replicate hostWork 0) a rota′ work′ → x ≡ number a → Called number promise book rota x rota′
+      promise n (take (2 * m) words′) rota (replicate workRoom 0) a rota′ work′ → x ≡ number a → Called number promise book rota x rota′
   called number promise rota n m a rota′ work′ x r k e =
       let l = read-is-list book fresh n m words′ r in
       record {
-        good = sym (r .refuses ∙ ap (bookDue book) (length-replicate {A = ℕ} hostWords 0));
+        good = sym (r .refuses ∙ ap (bookDue book) (length-replicate {A = ℕ} wordsRoom 0));
         answer = a;
         work′ = work′;
         kept = rw (r .says .0, l .front) at k;

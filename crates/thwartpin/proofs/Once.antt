@@ -9,12 +9,13 @@ use Rattle.book.specs.Checks.{choicesIn, codesIn}
 use Rattle.book.specs.Promise.{Reads}
 use Rattle.meaning.specs.Promises.{Decides, Forces, TiesUp, Clashes, Moves}
 use Rattle.meaning.specs.Refusals.{numberOf, placeOf, asDue}
-use Rattle.meaning.specs.Sizes.{over}
-use Rattle.thwartpin.specs.Hosts.{hostWork, Turned, Called, HostDecides, HostMoves}
+use Rattle.meaning.specs.Sizes.{over, workRoom}
+use Rattle.thwartpin.specs.Hosts.{Turned, Called, HostDecides, HostMoves}
 use Rattle.thwartpin.specs.Lists.{Areas, areas, Tells, On, TellsDecided, TellsForced, TellsClash, TellsMoved, TellsTies, TellsRead}
 use Rattle.thwartpin.specs.Numbers.{decidedNumber, decidedValues, listedNumber, listedValues, clashedNumber, clashedValues, movedNumber, movedValues, readNumber, readValues, hostDecided, hostMoved}
 use Rattle.book.proofs.Outcomes.{reads-once}
-use Rattle.meaning.proofs.Once.{Same, not-refused, decides-once, forces-once, ties-once, clashes-once, moves-once}
+use Rattle.meaning.proofs.RefusalLaws.{not-refused}
+use Rattle.meaning.proofs.Once.{Same, decides-once, forces-once, ties-once, clashes-once, moves-once}
 
 -- The form that the calls with `out` share: where the promise fixes the answer and the areas, it fixes the number and out too.
 module _ {A S : Type 0} (number : A → ℕ) (values : A → List ℕ) (keeps : A → S → Type 0) (once : (a b : A) (s t : S) → keeps a s → keeps b t → (a ≡ b) × (s ≡ t))
@@ -80,7 +81,7 @@ module _ {A : Type 0} (number : A → ℕ) (promise : ℕ → List ℕ → List 
   host-once q r x y (inl u) (inr v) = absurd (not-refused (numberOf (u .refusal)) (placeOf (u .refusal)) (sym (v .good) ∙ u .due))
   host-once q r x y (inr u) (inl v) = absurd (not-refused (numberOf (v .refusal)) (placeOf (v .refusal)) (sym (u .good) ∙ v .due))
   host-once q r x y (inr u) (inr v) =
-      let e = once (choicesIn book) (codesIn book) rota (replicate hostWork 0) (u .answer) (v .answer) x (u .work′) y (v .work′) (u .kept) (v .kept) in
+      let e = once (choicesIn book) (codesIn book) rota (replicate workRoom 0) (u .answer) (v .answer) x (u .work′) y (v .work′) (u .kept) (v .kept) in
       (u .numbered ∙ ap number (e .0) ∙ sym (v .numbered), e .1)
 
 pub host-decides-once : (book rota : List ℕ) (q r : ℕ) (x y : List ℕ) → HostDecides book rota q x → HostDecides book rota r y → (q ≡ r) × (x ≡ y)

@@ -7,29 +7,23 @@ use lib.ListN.{replicate}
 use Rattle.meaning.specs.declared.refusal.Refusal.{Refusal}
 use Rattle.book.specs.Checks.{choicesIn, codesIn, bookDue}
 use Rattle.meaning.specs.Promises.{Decides, Moves}
+use Rattle.meaning.specs.Sizes.{wordsRoom, workRoom}
 use Rattle.meaning.specs.Refusals.{numberOf, none, asDue}
 use Rattle.thwartpin.specs.Numbers.{hostDecided, hostMoved}
-
--- the room for words and for work: what the largest list takes
-abbrev pub hostWords : ℕ
-hostWords = 4096
-
-abbrev pub hostWork : ℕ
-hostWork = 14352
 
 -- the book is refused: the rota stays
 pub record Turned (book rota : List ℕ) (r : ℕ) (rota′ : List ℕ) : Type 0 where
   pub refusal : Refusal
-  pub due : bookDue book hostWords ≡ asDue refusal
+  pub due : bookDue book wordsRoom ≡ asDue refusal
   pub number : r ≡ numberOf refusal
   pub stays : rota′ ≡ rota
 
 -- the book is good: the call's promise is kept on its list, with the host's rota and a work area of zeros
 pub record Called {A : Type 0} (number : A → ℕ) (promise : ℕ → List ℕ → List ℕ → List ℕ → A → List ℕ → List ℕ → Type 0) (book rota : List ℕ) (r : ℕ) (rota′ : List ℕ) : Type 0 where
-  pub good : bookDue book hostWords ≡ none
+  pub good : bookDue book wordsRoom ≡ none
   pub answer : A
   pub work′ : List ℕ
-  pub kept : promise (choicesIn book) (codesIn book) rota (replicate hostWork 0) answer rota′ work′
+  pub kept : promise (choicesIn book) (codesIn book) rota (replicate workRoom 0) answer rota′ work′
   pub numbered : r ≡ number answer
 
 abbrev pub HostDecides : List ℕ → List ℕ → ℕ → List ℕ → Type 0

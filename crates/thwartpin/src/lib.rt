@@ -1,6 +1,8 @@
 // The C face: what include/thwartpin.h declares. Each call is thin over the engine's or the book's, and no caller has to prove anything:
 // whatever lies in the areas, the answer is the one that specs/ leaves open.
 use book::Read;
+use meaning::WORDS_ROOM;
+use meaning::WORK_ROOM;
 ghost use Rattle.thwartpin.specs.Lists.{areas, TellsDecided, TellsForced, TellsClash, TellsMoved, TellsTies, TellsRead};
 ghost use Rattle.thwartpin.specs.Hosts.{HostDecides, HostMoves};
 
@@ -102,16 +104,12 @@ pub extern "C" fn thwartpin_read_book(book: &[u8], words: &mut [u16], out: &mut 
 }
 
 // The host's calls. What they work in is their own, at full size, so that a host lends the book and the rota alone.
-const HOST_WORDS: usize = 4096;
-
-const HOST_WORK: usize = 14352;
-
 #[no_mangle]
 pub extern "C" fn thwartpin_decide(book: &[u8], rota: &mut [u8]) -> u32
     ensures { λ r. ⌜ HostDecides (now (book .entry)) (now (rota .entry)) r (now (rota .exit)) ⌝ }
 {
-    let mut words = [0u16; HOST_WORDS];
-    let mut work = [0u16; HOST_WORK];
+    let mut words = [0u16; WORDS_ROOM];
+    let mut work = [0u16; WORK_ROOM];
     let read = book::read(book, &mut words);
     match read {
         Read::Refused(refusal) => refusal.number(),
@@ -126,8 +124,8 @@ pub extern "C" fn thwartpin_decide(book: &[u8], rota: &mut [u8]) -> u32
 pub extern "C" fn thwartpin_next(book: &[u8], rota: &mut [u8]) -> u32
     ensures { λ r. ⌜ HostMoves (now (book .entry)) (now (rota .entry)) r (now (rota .exit)) ⌝ }
 {
-    let mut words = [0u16; HOST_WORDS];
-    let mut work = [0u16; HOST_WORK];
+    let mut words = [0u16; WORDS_ROOM];
+    let mut work = [0u16; WORK_ROOM];
     let read = book::read(book, &mut words);
     match read {
         Read::Refused(refusal) => refusal.number(),
