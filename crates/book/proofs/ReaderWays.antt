@@ -1,11 +1,9 @@
 -- What each way through `read` shows. bs is the book's bytes.
-use mathlib.Core.Path.{_≡_, refl, sym, ap, _∙_}
+use mathlib.Core.Path.{_≡_, refl, sym, _∙_}
 use mathlib.Core.List.{List, _++_}
-use Prim.Native.Nat.{ℕ, _+_, _-_}
-use native.Mathlib.Omega.{arith}
+use Prim.Native.Nat.{ℕ, _+_}
 use native.Mathlib.Nat.{zero-add}
-use lib.ListN.{length, take, drop, length-drop}
-use lib.Seq.{take-all}
+use lib.ListN.{length, drop}
 use Rattle.meaning.specs.declared.refusal.Refusal.{Refusal}
 use Rattle.meaning.specs.Sizes.{maxChoices, maxRules}
 use Rattle.meaning.specs.Refusals.{numberOf, placeOf, Check, firstOf}
@@ -18,14 +16,6 @@ use Rattle.book.specs.Promise.{Reads}
 use Rattle.book.specs.Inner.{NumberBelow, GivesCodes}
 use Rattle.book.proofs.Refusing.{behind}
 use Rattle.book.proofs.CodesWays.{after-at}
-
--- read: the part of the book that is lent on from a place is all that stands from there on
-pub lent-on : (bs : List ℕ) (from : ℕ) → take (length bs - from) (drop from bs) ≡ drop from bs
-lent-on bs from = take-all (length bs - from) (drop from bs) (omega (arith, length-drop from bs))
-
--- so it is as long as what is left of the book
-pub lent-long : (bs : List ℕ) (from : ℕ) → length (take (length bs - from) (drop from bs)) ≡ length bs - from
-lent-long bs from = ap length (lent-on bs from) ∙ length-drop from bs
 
 -- what n's number and m's are refused by, the whole book is
 module _ (bs words : List ℕ) where

@@ -7,12 +7,12 @@ use native.Mathlib.Decide.{ℕ-discrete, decLe, decLt}
 use lib.ListN.{getD, replicate}
 use Rattle.meaning.specs.Rotas.{Forced}
 use Rattle.meaning.specs.Sizes.{over}
-use Rattle.meaning.specs.Table.{Right, caseG, caseJ}
-use Rattle.meaning.proofs.Marked.{marked}
+use Rattle.table.specs.Table.{Right, caseG, caseJ}
+use Rattle.table.proofs.Marked.{marked}
 use Rattle.meaning.proofs.Tests.{shown, below?, forced?}
 use Rattle.book.specs.Checks.{bookDue}
 use Rattle.lines.specs.declared.answer.Shown.{Shown}
-use Rattle.lines.specs.Text.{digits, numbersLine, possibleText, impossibleText, refusalText}
+use Rattle.text.specs.Text.{digits, numbersLine, possibleText, impossibleText, refusalText}
 use Rattle.lines.specs.Promise.{BookText, Shows}
 
 rightG : Right (caseG .n) (caseG .ws) (caseG .answer)

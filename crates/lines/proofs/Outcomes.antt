@@ -8,7 +8,7 @@ use lib.ListN.{length, getD}
 use lib.Seq.{ext-getD}
 use Rattle.meaning.specs.Codes.{late, early}
 use Rattle.meaning.specs.Sizes.{over, wordsRoom}
-use Rattle.meaning.specs.Refusals.{Due, none, refused}
+use Rattle.meaning.specs.Refusals.{Due, refused}
 use Rattle.meaning.proofs.Unique.{first-unique, forced-unique, shortest-unique, lowest-unique, first-or-clash}
 use Rattle.book.specs.Checks.{choicesIn, codesIn, bookDue}
 use Rattle.lines.specs.declared.answer.Shown.{Shown}

@@ -17,7 +17,7 @@ use Rattle.meaning.specs.Rules.{rules, InRange}
 use Rattle.meaning.specs.Rotas.{First, Forced, Impossible}
 use Rattle.meaning.specs.Chains.{Chain}
 use Rattle.meaning.specs.Sizes.{maxChoices, maxRules, rotaNeeds, chainsNeed, workNeeds, over, wordsRoom, workRoom}
-use Rattle.meaning.specs.Refusals.{Due, none, numberOf, placeOf, listDue}
+use Rattle.meaning.specs.Refusals.{Due, numberOf, placeOf, listDue}
 use Rattle.meaning.specs.Promises.{Answered, Keeps, decidedRefusal, DecideSays, Decides, listedRefusal, ListedSays, Each, Forces, clashedRefusal, ClashSays, BothChains, Clashes}
 use Rattle.meaning.proofs.ChainLaws.{clash-impossible}
 use Rattle.meaning.proofs.ChainLength.{clash-within}
@@ -26,11 +26,11 @@ use Rattle.book.specs.Saved.{Savable}
 use Rattle.book.proofs.GivenLists.{saved-due, read-is-list}
 use Rattle.book.specs.declared.answer.Read.{Read}
 use Rattle.book.specs.Promise.{Reads}
-use Rattle.lines.specs.Text.{possibleText, impossibleText, refusalText}
-use Rattle.lines.specs.Inner.{Room, Puts}
-use Rattle.lines.specs.Promise.{textNeeds, ListText, BookText, Leaves}
-use Rattle.lines.proofs.Putting.{puts-over}
-use Rattle.lines.proofs.Lengths.{possible-short, impossible-short}
+use Rattle.text.specs.Text.{textNeeds, possibleText, impossibleText, refusalText}
+use Rattle.text.specs.Inner.{Room, Puts}
+use Rattle.lines.specs.Promise.{ListText, BookText, Leaves}
+use Rattle.text.proofs.Putting.{puts-over}
+use Rattle.text.proofs.Lengths.{possible-short, impossible-short}
 
 -- a text that is put at the front is left there
 pub leaves : {Right : List ℕ → Type 0} {text out : List ℕ} {k : ℕ} {out′ : List ℕ} → Right text → Puts text out 0 k out′ → Leaves Right out k out′

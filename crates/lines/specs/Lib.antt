@@ -1,4 +1,2 @@
--- What a reader has to believe: the text of an answer (`Text`), and which text a book has (`Promise`). `Inner` is the writers' own.
-pub mod Text
+-- What a reader has to believe: which text a book has. What the text of an answer is stands in crate text.
 pub mod Promise
-pub mod Inner

@@ -3,7 +3,7 @@
 use mathlib.Core.Path.{_≡_}
 use mathlib.Core.Logic.{_⊎_}
 use mathlib.Core.List.{List}
-use Prim.Native.Nat.{ℕ, _+_, _*_, _≤_, _<_}
+use Prim.Native.Nat.{ℕ, _≤_, _<_}
 use lib.ListN.{length}
 use Rattle.meaning.specs.Codes.{late, early}
 use Rattle.meaning.specs.Rules.{rules}
@@ -14,11 +14,7 @@ use Rattle.meaning.specs.Refusals.{Due, none, refused}
 use Rattle.meaning.specs.Promises.{Each}
 use Rattle.book.specs.Checks.{choicesIn, codesIn, bookDue}
 use Rattle.lines.specs.declared.answer.Shown.{Shown}
-use Rattle.lines.specs.Text.{possibleText, impossibleText, refusalText}
-
--- the least length of the lent area: no text is longer
-abbrev pub textNeeds : ℕ
-textNeeds = 5200
+use Rattle.text.specs.Text.{textNeeds, possibleText, impossibleText, refusalText}
 
 -- the list is possible, and the text is that of its first rota and its forced bytes
 pub record PossibleTold (n : ℕ) (ws text : List ℕ) : Type 0 where

@@ -1,7 +1,4 @@
 // The book read, the list answered by the engine, and the answer put as lines.
-use crate::text::put_impossible;
-use crate::text::put_possible;
-use crate::text::put_refusal;
 use book::Read;
 use meaning::CHAINS_ROOM;
 use meaning::Clashed;
@@ -10,12 +7,16 @@ use meaning::Listed;
 use meaning::ROTA_ROOM;
 use meaning::WORDS_ROOM;
 use meaning::WORK_ROOM;
+use text::lines::put_impossible;
+use text::lines::put_possible;
+use text::lines::put_refusal;
 ghost use Prim.Native.Nat.{_*_, _≤_};
 ghost use lib.ListN.{length};
 ghost use Rattle.meaning.specs.Rotas.{First, Impossible};
 ghost use Rattle.meaning.specs.Sizes.{wordsRoom, workRoom};
 ghost use Rattle.book.specs.Saved.{Savable};
-ghost use Rattle.lines.specs.Promise.{Leaves, ListText, Shows, textNeeds};
+ghost use Rattle.lines.specs.Promise.{Leaves, ListText, Shows};
+ghost use Rattle.text.specs.Text.{textNeeds};
 
 // The length of the text, or that the area is shorter than any text may be.
 pub enum Shown {

@@ -1,8 +1,6 @@
 // The printing library: from a book's bytes to the lines that answer it. What the text is stands in specs/, apart from
 // the writers.
 mod answer; // the book read, the list answered
-mod fields; // bytes, numbers and values, each put at a place of the area
-mod text; // the lines of each answer
 
 pub use answer::Shown;
 pub use answer::show;

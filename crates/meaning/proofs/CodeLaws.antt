@@ -6,7 +6,12 @@ use native.Mathlib.Decide.{ℕ-discrete}
 use mathlib.Core.Logic.{_⊎_, inl, inr}
 use Rattle.meaning.specs.Codes.{late, early, opposite, choiceOf, valueOf, codeOf}
 
--- the opposite of an odd code c is c - 1
+-- the opposite of an even code c is c + 1
+pub opposite-even : (c : ℕ) → c % 2 ≡ 0 → opposite c ≡ c + 1
+unfolding opposite
+opposite-even c h = omega arith
+
+-- and of an odd one c - 1
 pub opposite-odd : (c : ℕ) → c % 2 ≡ 1 → opposite c ≡ c - 1
 unfolding opposite
 opposite-odd c h = omega arith

@@ -2,13 +2,13 @@
 use mathlib.Core.Path.{_≡_, refl, sym, ap, _∙_, subst}
 use mathlib.Core.Logic.{_⊎_, inl, inr, ⊎-elim, _≢_}
 use mathlib.Core.List.{List, [], _∷_}
-use Prim.Native.Nat.{ℕ, zero, suc, _+_, _≤_, _<_}
+use Prim.Native.Nat.{ℕ, zero, suc, _+_, _-_, _≤_, _<_}
 use native.Mathlib.Omega.{arith}
 use native.Mathlib.Nat.{le-of-suc-le-suc, not-suc-le-zero}
 use native.Mathlib.Decide.{decLt, ℕ-discrete}
 use native.Mathlib.Numerals.{add-one}
-use lib.ListN.{length, getD, drop}
-use lib.Seq.{drop-cons}
+use lib.ListN.{length, getD, take, drop, length-drop}
+use lib.Seq.{drop-cons, take-all}
 
 -- two numbers: the first is less, or equal, or greater
 pub compared : (a b : ℕ) → (a < b) ⊎ ((a ≡ b) ⊎ (b < a))
@@ -126,3 +126,10 @@ distinct-length zero (x ∷ xs) d h = absurd (omega (arith, h x (inl refl)))
 distinct-length (suc n) xs d h =
     let w = without n xs d h in
     omega (arith, w .3, distinct-length n (w .0) (w .1) (λ y m. w .2 y m .1))
+
+-- the part of a list that is lent on from a place is all that stands from there on, and as long
+pub lent-on : {A : Type 0} (xs : List A) (from : ℕ) → take (length xs - from) (drop from xs) ≡ drop from xs
+lent-on xs from = take-all (length xs - from) (drop from xs) (omega (arith, length-drop from xs))
+
+pub lent-long : {A : Type 0} (xs : List A) (from : ℕ) → length (take (length xs - from) (drop from xs)) ≡ length xs - from
+lent-long xs from = ap length (lent-on xs from) ∙ length-drop from xs

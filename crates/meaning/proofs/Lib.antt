@@ -21,6 +21,3 @@ pub mod EveryRotaOnce
 pub mod Tests
 pub mod Exists
 pub mod Outcomes
-pub mod Marked
-pub mod IdleEngines
-pub mod Examples

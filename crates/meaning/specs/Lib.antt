@@ -8,4 +8,3 @@ pub mod Sizes
 pub mod Refusals
 pub mod Promises
 pub mod Runs
-pub mod Table

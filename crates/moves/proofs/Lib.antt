@@ -11,5 +11,3 @@ pub mod Spreading
 pub mod Clearing
 pub mod Pressing
 pub mod Trying
-pub mod Noting
-pub mod Sharing

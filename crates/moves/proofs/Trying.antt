@@ -6,7 +6,7 @@ use Prim.Native.Nat.{ℕ, _*_, _<_}
 use native.Mathlib.Omega.{arith}
 use Rattle.meaning.specs.Chains.{Reach}
 use Rattle.meaning.specs.Codes.{opposite}
-use Rattle.moves.specs.Layout.{mark, trail}
+use Rattle.moves.specs.Layout.{mark, trail, Spared}
 use Rattle.moves.specs.Trials.{Pressed, Grew, GaveUp}
 use Rattle.moves.specs.Walks.{GoesOn, Listed, Held, Holding, Undone}
 use Rattle.meaning.proofs.ChainLaws.{reach-trans, reach-flip, reach-turn}
@@ -14,7 +14,7 @@ use Rattle.meaning.proofs.CodeLaws.{opposite-opposite, opposite-below}
 use Rattle.meaning.proofs.General.{same?}
 use Rattle.meaning.proofs.Sets.{Closed, closed-reach}
 use Rattle.moves.proofs.Places.{apart-trans}
-use Rattle.moves.proofs.Trails.{trail-few, trail-none}
+use Rattle.moves.proofs.Trails.{trail-few, trail-none, trail-same}
 
 -- a code outside the set has no mark
 pub unmarked : {n : ℕ} {W : List ℕ} {x : ℕ} → x < 2 * n → (Held n W x → ⊥) → mark n W x ≡ 0
@@ -110,3 +110,7 @@ module _ {n : ℕ} {ws : List ℕ} {c tail : ℕ} {W W₁ : List ℕ} {t : ℕ} 
         out = same b (m .0) ∙ unmarked (m .0) outside;
         outOpposite = same (opposite b) lo ∙ unmarked lo (clear-of b (m .1));
       }
+
+-- what changed only spare words
+pub listed-spared : {n t : ℕ} {W W′ : List ℕ} → Spared n W W′ → Listed n W t → Listed n W′ t
+listed-spared {n} {t} {W} {W′} s r = trail-same (mark n W′) (trail n W′) (s .marks) (s .trails) r

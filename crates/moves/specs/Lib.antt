@@ -3,4 +3,3 @@ pub mod Layout
 pub mod Lists
 pub mod Walks
 pub mod Trials
-pub mod Learning

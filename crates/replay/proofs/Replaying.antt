@@ -23,9 +23,8 @@ use Rattle.meaning.proofs.CodeLaws.{code-of-parts}
 use Rattle.meaning.proofs.NextLaws.{Kept, NoneAt, stuck-none, late-none, past-none}
 use Rattle.meaning.proofs.Sets.{closed-reach}
 use Rattle.moves.proofs.Places.{apart-refl, spare-stored, spare-elsewhere, spare-spared, tables}
-use Rattle.moves.proofs.Sharing.{listed-spared}
 use Rattle.moves.proofs.Trails.{trail-few}
-use Rattle.moves.proofs.Trying.{holding-none}
+use Rattle.moves.proofs.Trying.{holding-none, listed-spared}
 
 -- a rota at the front of an area
 

@@ -24,9 +24,8 @@ use Rattle.meaning.proofs.Growing.{Grown, grown-allowed, grown-true, grown-must
 use Rattle.meaning.proofs.NextLaws.{Kept, none-ended, made-next}
 use Rattle.meaning.proofs.Sets.{closed-reach, Spread}
 use Rattle.moves.proofs.Places.{spared-refl, spared-trans, spare-stored, spare-elsewhere, spare-spared}
-use Rattle.moves.proofs.Sharing.{listed-spared}
 use Rattle.moves.proofs.Trails.{trail-few}
-use Rattle.moves.proofs.Trying.{holding-none}
+use Rattle.moves.proofs.Trying.{holding-none, listed-spared}
 
 -- the spare table is cleared
 

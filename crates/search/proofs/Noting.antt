@@ -10,8 +10,7 @@ use Rattle.meaning.specs.Chains.{Reach}
 use Rattle.meaning.specs.Codes.{opposite}
 use Rattle.moves.specs.Layout.{spareAt, spare, Tables, Spared}
 use Rattle.moves.proofs.Places.{spare-stored, spare-elsewhere, spare-spared, tables}
-use Rattle.moves.proofs.Sharing.{listed-spared}
-use Rattle.moves.proofs.Trying.{holding-same}
+use Rattle.moves.proofs.Trying.{holding-same, listed-spared}
 use Rattle.search.specs.Search.{Taught}
 use Rattle.search.specs.State.{State, Around}
 use Rattle.search.proofs.Searching.{ready-around}

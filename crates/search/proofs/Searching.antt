@@ -11,7 +11,7 @@ use Rattle.meaning.specs.Chains.{Reach, Clash, LowestClash}
 use Rattle.meaning.specs.Codes.{late, early, opposite}
 use Rattle.meaning.specs.Rotas.{First}
 use Rattle.moves.specs.Layout.{mark, spare, Apart}
-use Rattle.moves.specs.Learning.{Notes, Learnt}
+use Rattle.lessons.specs.Learning.{Notes, Learnt}
 use Rattle.moves.specs.Lists.{Ready}
 use Rattle.moves.specs.Trials.{Grew, GaveUp}
 use Rattle.moves.specs.Walks.{Held, Listed, Undone}

@@ -1,5 +1,6 @@
 // One choice is settled: early if that can be kept, else late, else it is stuck. A failure that walked far is learnt from, so that the same
 // walk is not done again for the next choice; a short one is just turned over.
+use lessons::learn::learn;
 use meaning::Choice;
 use meaning::Code;
 use moves::attempt::Trial;
@@ -7,7 +8,6 @@ use moves::attempt::attempt;
 use moves::layout::mark_of;
 use moves::layout::set_spare;
 use moves::layout::spare_of;
-use moves::learn::learn;
 ghost use mathlib.Core.Path.{_≡_};
 ghost use Prim.Native.Nat.{_*_, _<_};
 ghost use Rattle.meaning.specs.Chains.{Reach};

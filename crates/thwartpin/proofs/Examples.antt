@@ -1,8 +1,7 @@
 -- The numbers of the answers, and the promises for C, each on a small input. Areas hold 7 before a call.
 use mathlib.Core.Path.{_≡_, refl}
 use mathlib.Core.Logic.{inl, inr}
-use mathlib.Core.List.{List, [], _∷_}
-use Prim.Native.Nat.{ℕ}
+use mathlib.Core.List.{[], _∷_}
 use native.Mathlib.Omega.{arith}
 use lib.ListN.{replicate}
 use Rattle.meaning.specs.declared.answers.Decided.{Decided}
@@ -12,12 +11,12 @@ use Rattle.meaning.specs.declared.answers.Moved.{Moved}
 use Rattle.meaning.specs.declared.refusal.Refusal.the-variants.{CodeTooHigh, BookEnds, ValueTooHigh}
 use Rattle.meaning.specs.Refusals.{listDue, nextDue}
 use Rattle.meaning.specs.Sizes.{cleared, workRoom}
-use Rattle.meaning.specs.Table.{Right, Case, caseB, caseF, caseG, caseI, caseJ, caseK}
-use Rattle.meaning.proofs.Examples.{decide-K, force-J, tie-F, clash-G, move-I}
-use Rattle.meaning.proofs.Marked.{marked}
+use Rattle.table.specs.Table.{Right, caseB, caseF, caseG, caseI, caseJ, caseK}
+use Rattle.table.proofs.Examples.{decide-K, force-J, tie-F, clash-G, move-I}
+use Rattle.table.proofs.Marked.{marked}
 use Rattle.book.specs.declared.answer.Read.{Read}
 use Rattle.book.specs.Checks.{bookDue}
-use Rattle.thwartpin.specs.Numbers.{decidedNumber, decidedValues, listedNumber, listedValues, clashedNumber, clashedValues, movedNumber, movedValues, readNumber, readValues, hostDecided, hostMoved}
+use Rattle.numbers.specs.Numbers.{decidedNumber, decidedValues, listedNumber, listedValues, clashedNumber, clashedValues, movedNumber, movedValues, readNumber, readValues, hostDecided, hostMoved}
 use Rattle.thwartpin.specs.Lists.{areas, TellsDecided, TellsForced, TellsClash, TellsMoved, TellsTies, TellsRead}
 use Rattle.thwartpin.specs.Hosts.{HostDecides, HostMoves}
 

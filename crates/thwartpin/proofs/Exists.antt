@@ -11,8 +11,8 @@ use Rattle.meaning.specs.Promises.{Decides, Forces, TiesUp, Clashes, Moves}
 use Rattle.meaning.specs.Refusals.{numberOf}
 use Rattle.meaning.specs.Sizes.{over, wordsRoom, workRoom}
 use Rattle.thwartpin.specs.Hosts.{Turned, Called, HostDecides, HostMoves}
-use Rattle.thwartpin.specs.Lists.{outNeeds, outShort, Areas, areas, Tells, On, TellsDecided, TellsForced, TellsClash, TellsMoved, TellsTies, TellsRead}
-use Rattle.thwartpin.specs.Numbers.{decidedNumber, decidedValues, listedNumber, listedValues, clashedNumber, clashedValues, movedNumber, movedValues, readNumber, readValues, hostDecided, hostMoved}
+use Rattle.thwartpin.specs.Lists.{Areas, areas, Tells, On, TellsDecided, TellsForced, TellsClash, TellsMoved, TellsTies, TellsRead}
+use Rattle.numbers.specs.Numbers.{outNeeds, outShort, decidedNumber, decidedValues, listedNumber, listedValues, clashedNumber, clashedValues, movedNumber, movedValues, readNumber, readValues, hostDecided, hostMoved}
 use Rattle.book.proofs.Outcomes.{reads-exists}
 use Rattle.meaning.proofs.General.{below-or-from}
 use Rattle.meaning.proofs.Outcomes.{Outcome, decides-exists, forces-exists, ties-exists, clashes-exists, moves-exists}

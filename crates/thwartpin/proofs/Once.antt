@@ -12,7 +12,7 @@ use Rattle.meaning.specs.Refusals.{numberOf, placeOf, asDue}
 use Rattle.meaning.specs.Sizes.{over, workRoom}
 use Rattle.thwartpin.specs.Hosts.{Turned, Called, HostDecides, HostMoves}
 use Rattle.thwartpin.specs.Lists.{Areas, areas, Tells, On, TellsDecided, TellsForced, TellsClash, TellsMoved, TellsTies, TellsRead}
-use Rattle.thwartpin.specs.Numbers.{decidedNumber, decidedValues, listedNumber, listedValues, clashedNumber, clashedValues, movedNumber, movedValues, readNumber, readValues, hostDecided, hostMoved}
+use Rattle.numbers.specs.Numbers.{decidedNumber, decidedValues, listedNumber, listedValues, clashedNumber, clashedValues, movedNumber, movedValues, readNumber, readValues, hostDecided, hostMoved}
 use Rattle.book.proofs.Outcomes.{reads-once}
 use Rattle.meaning.proofs.RefusalLaws.{not-refused}
 use Rattle.meaning.proofs.Once.{Same, decides-once, forces-once, ties-once, clashes-once, moves-once}

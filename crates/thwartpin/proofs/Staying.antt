@@ -17,7 +17,7 @@ use Rattle.meaning.specs.Promises.{After, DecideSays, NextSays}
 use Rattle.meaning.specs.Refusals.{Due, none, refused, Check, check, firstOf, shortPlace, overCheck, roomCheck, listChecks, listDue, nextDue}
 use Rattle.meaning.specs.Sizes.{rotaNeeds, workNeeds, over, wordsRoom, workRoom}
 use Rattle.thwartpin.specs.Hosts.{HostDecides, HostMoves}
-use Rattle.thwartpin.specs.Numbers.{hostDecided, hostMoved}
+use Rattle.numbers.specs.Numbers.{hostDecided, hostMoved}
 use Rattle.book.proofs.GivenLists.{read-is-list, saved-due}
 use Rattle.book.proofs.Refusing.{last-none}
 use Rattle.meaning.proofs.RefusalLaws.{none-applies, due-behind, due-ahead}

@@ -9,7 +9,7 @@ use Rattle.book.specs.Checks.{choicesIn, codesIn, bookDue}
 use Rattle.meaning.specs.Promises.{Decides, Moves}
 use Rattle.meaning.specs.Sizes.{wordsRoom, workRoom}
 use Rattle.meaning.specs.Refusals.{numberOf, none, asDue}
-use Rattle.thwartpin.specs.Numbers.{hostDecided, hostMoved}
+use Rattle.numbers.specs.Numbers.{hostDecided, hostMoved}
 
 -- the book is refused: the rota stays
 pub record Turned (book rota : List ℕ) (r : ℕ) (rota′ : List ℕ) : Type 0 where

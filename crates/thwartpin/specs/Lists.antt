@@ -8,14 +8,7 @@ use lib.ListN.{length}
 use Rattle.book.specs.Promise.{Reads}
 use Rattle.meaning.specs.Promises.{Decides, Forces, TiesUp, Clashes, Moves}
 use Rattle.meaning.specs.Sizes.{over}
-use Rattle.thwartpin.specs.Numbers.{decidedNumber, decidedValues, listedNumber, listedValues, clashedNumber, clashedValues, movedNumber, movedValues, readNumber, readValues}
-
--- the least length of `out`, and the answer where it is shorter
-abbrev pub outNeeds : ℕ
-outNeeds = 3
-
-abbrev pub outShort : ℕ
-outShort = 200
+use Rattle.numbers.specs.Numbers.{outNeeds, outShort, decidedNumber, decidedValues, listedNumber, listedValues, clashedNumber, clashedValues, movedNumber, movedValues, readNumber, readValues}
 
 -- the areas of a call on a list: its answer's and its work
 pub record Areas : Type 0 where

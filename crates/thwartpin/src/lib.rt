@@ -3,10 +3,9 @@
 use book::Read;
 use meaning::WORDS_ROOM;
 use meaning::WORK_ROOM;
+use numbers::tell;
 ghost use Rattle.thwartpin.specs.Lists.{areas, TellsDecided, TellsForced, TellsClash, TellsMoved, TellsTies, TellsRead};
 ghost use Rattle.thwartpin.specs.Hosts.{HostDecides, HostMoves};
-
-mod tell; // answers as numbers and values
 
 // The least length of `out`, and the answer where it is shorter.
 const OUT_NEEDS: usize = 3;

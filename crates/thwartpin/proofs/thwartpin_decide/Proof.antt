@@ -2,7 +2,7 @@
 use mathlib.Core.Logic.{inl, inr}
 use native.Mathlib.Omega.{arith}
 use Rattle.meaning.specs.Promises.{Decides}
-use Rattle.thwartpin.specs.Numbers.{hostDecided}
+use Rattle.numbers.specs.Numbers.{hostDecided}
 use Rattle.thwartpin.proofs.Hosting.{within, counted, turned, called}
 use borrow.Author.Needs.{needs}
 use Rattle.thwartpin.proofs.thwartpin_decide.Statement.{statement}

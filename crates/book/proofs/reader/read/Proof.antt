@@ -4,12 +4,13 @@ use native.Mathlib.Omega.{arith}
 use borrow.Author.Needs.{needs}
 use denote.Ref.{now}
 use lib.ListN.{length, drop}
+use Rattle.meaning.proofs.General.{lent-on, lent-long}
 use Rattle.meaning.specs.Sizes.{maxChoices, maxRules}
 use Rattle.book.specs.declared.number.Number.{Number}
 use Rattle.book.specs.Inner.{NumberBelow}
 use Rattle.book.proofs.NumberLaws.{limit-none}
 use Rattle.book.proofs.CodesWays.{next-inside}
-use Rattle.book.proofs.ReaderWays.{lent-on, lent-long, refused-choices, refused-rules, read-whole}
+use Rattle.book.proofs.ReaderWays.{refused-choices, refused-rules, read-whole}
 use Rattle.book.proofs.reader.read.Statement.{statement}
 use Rattle.book.proofs.reader.read.Tie as tie
 

@@ -5,8 +5,8 @@ use denote.Ref.{now}
 use lib.ListN.{take}
 use Rattle.replay.proofs.Turning.{forgot-stands, begin-around, begin-raised, begin-empty, found-next, turn-ended, turn-impossible}
 use Rattle.search.proofs.Searching.{around-trans, ready-around, undone-all}
+use Rattle.moves.proofs.Trying.{listed-spared}
 use Rattle.moves.proofs.Places.{tables}
-use Rattle.moves.proofs.Sharing.{listed-spared}
 use Rattle.replay.proofs.turn.find_next.Statement.{statement}
 use Rattle.replay.proofs.turn.find_next.Tie as tie
 

@@ -1,0 +1,3 @@
+-- The laws that carry the lessons.
+pub mod Noting
+pub mod Sharing

@@ -1,0 +1,2 @@
+-- The law that carries the numbers.
+pub mod Storing

@@ -1,0 +1,49 @@
+-- Next's answer is told.
+use borrow.Author.Needs.{needs}
+use Rattle.numbers.proofs.tell.moved.Statement.{statement}
+use Rattle.numbers.proofs.tell.moved.Tie as tie
+
+enum-told : tie.Need-enum-told
+enum-told c = search needs
+
+enum-told-2 : tie.Need-enum-told-2
+enum-told-2 c = search needs
+
+enum-told-3 : tie.Need-enum-told-3
+enum-told-3 c = search needs
+
+enum-known-answer : tie.Need-enum-known-answer
+enum-known-answer c = search needs
+
+refused-requires : tie.Need-refused-requires
+refused-requires c κs = search needs
+
+returns : tie.Need-returns
+returns c = search needs
+
+returns-2 : tie.Need-returns-2
+returns-2 c = search needs
+
+returns-3 : tie.Need-returns-3
+returns-3 c = search needs
+
+same-length : tie.Need-same-length
+same-length c = search needs
+
+returns-4 : tie.Need-returns-4
+returns-4 c = rw ((c .before .before .before .before .before .answer) .given .1) ((c .before .before .refused) .ensures)
+
+pub moved-spec : {M : Type 1} → statement M
+moved-spec =
+    tie.close
+    (tie.spec
+    enum-told
+    enum-told-2
+    enum-told-3
+    enum-known-answer
+    refused-requires
+    returns
+    returns-2
+    returns-3
+    same-length
+    returns-4)

@@ -1,0 +1,28 @@
+-- `put_digit` meets its contract: a store is one byte put.
+use native.Mathlib.Omega.{arith}
+use Rattle.text.proofs.Putting.{puts-byte}
+use borrow.Author.Needs.{needs}
+use Rattle.text.proofs.fields.put_digit.Statement.{statement}
+use Rattle.text.proofs.fields.put_digit.Tie as tie
+
+cast-out : tie.Need-cast-out
+cast-out c = search needs
+
+add-out : tie.Need-add-out
+add-out c = search needs
+
+slice-write-out : tie.Need-slice-write-out
+slice-write-out c = search needs
+
+add-result : tie.Need-add-result
+add-result c = search needs
+
+same-length : tie.Need-same-length
+same-length c = search needs
+
+returns : tie.Need-returns
+returns c = puts-byte _ _ _ (omega (arith, (c .pre) .1 .fits))
+
+pub put-digit-spec : {M : Type 1} → statement M
+put-digit-spec =
+    tie.close (tie.spec cast-out add-out slice-write-out add-result same-length returns)
