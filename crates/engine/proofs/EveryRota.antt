@@ -1,9 +1,8 @@
 -- Demand 3, of the engine itself: a call of `decide` and then calls of `next` until it ends list every allowed rota, each once, in dictionary order, and no other.
 -- A call is here all that the function's own contract tells its caller, and nothing more.
 use mathlib.Core.Path.{_≡_}
-use mathlib.Core.List.{List, [], _∷_}
+use mathlib.Core.List.{List, _∷_}
 use Prim.Native.Nat.{ℕ}
-use lib.ListN.{take}
 use borrow.Fn.World.{ArgsD}
 use contract.Lifetimes.{Lfts}
 use denote.Ref.{now}
@@ -11,8 +10,8 @@ use denote.Triple.Clauses.{AtExit}
 use Rattle.meaning.specs.declared.answers.Decided.{Decided}
 use Rattle.meaning.specs.declared.answers.Moved.{Moved}
 use Rattle.meaning.specs.Promises.{Decides, Moves}
-use Rattle.meaning.specs.Runs.{GoesOn, EveryRota}
-use Rattle.meaning.proofs.EveryRotaOnce.{every-rota-once}
+use Rattle.meaning.specs.Runs.{RunOf, EveryRota}
+use Rattle.meaning.proofs.EveryRotaOnce.{calls-list-every-rota}
 use Rattle.engine.proofs.decide as decide
 use Rattle.engine.proofs.decide.Reads as decide-reads
 use Rattle.engine.proofs.next as next
@@ -50,41 +49,16 @@ tells : {A : Type 0} (P : ℕ → List ℕ → List ℕ → List ℕ → A → L
 tells P r κs args exits l p = rw (l .isCount, l .isWords, l .isArea, l .isWork, l .areaAfter, l .workAfter) at p
 
 -- each keeps its promise
-pub decide-keeps : {n : ℕ} {ws area work : List ℕ} {r : Decided} {area′ work′ : List ℕ} → DecideCall n ws area work r area′ work′ → Decides n ws area work r area′ work′
-decide-keeps {r = r} c = tells Decides r (c .κs) (c .args) (c .exits) (c .lends) (c .told)
+pub decide-keeps : (n : ℕ) (ws area work : List ℕ) (r : Decided) (area′ work′ : List ℕ) → DecideCall n ws area work r area′ work′ → Decides n ws area work r area′ work′
+decide-keeps n ws area work r area′ work′ c = tells Decides r (c .κs) (c .args) (c .exits) (c .lends) (c .told)
 
-pub next-keeps : {n : ℕ} {ws area work : List ℕ} {r : Moved} {area′ work′ : List ℕ} → NextCall n ws area work r area′ work′ → Moves n ws area work r area′ work′
-next-keeps {r = r} c = tells Moves r (c .κs) (c .args) (c .exits) (c .lends) (c .told)
+pub next-keeps : (n : ℕ) (ws area work : List ℕ) (r : Moved) (area′ work′ : List ℕ) → NextCall n ws area work r area′ work′ → Moves n ws area work r area′ work′
+next-keeps n ws area work r area′ work′ c = tells Moves r (c .κs) (c .args) (c .exits) (c .lends) (c .told)
 
--- `next` is called again and again on the rota's area, with any work area each time: it leaves the rotas rs there, one after the other, and then ends
-abbrev pub NextCalls : ℕ → List ℕ → List ℕ → List (List ℕ) → Type 1
-NextCalls n ws area [] = (work area′ work′ : List ℕ) × NextCall n ws area work Moved.Ended area′ work′
-NextCalls n ws area (r ∷ rs) = (work area′ work′ : List ℕ) × NextCall n ws area work Moved.Moved area′ work′ × (take n area′ ≡ r) × NextCalls n ws area′ rs
-
--- the rotas that `decide` and `next` leave
-pub record EngineRun (n : ℕ) (ws r : List ℕ) (rs : List (List ℕ)) : Type 1 where
-  pub area : List ℕ
-  pub work : List ℕ
-  pub area′ : List ℕ
-  pub work′ : List ℕ
-  pub decided : DecideCall n ws area work Decided.Possible area′ work′
-  pub first : take n area′ ≡ r
-  pub nexts : NextCalls n ws area′ rs
-
-calls-go-on : (n : ℕ) (ws area : List ℕ) (rs : List (List ℕ)) → NextCalls n ws area rs → GoesOn n ws area rs
-calls-go-on n ws area [] c = (c .0, c .1, c .2, next-keeps (c .3))
-calls-go-on n ws area (r ∷ rs) c = (c .0, c .1, c .2, next-keeps (c .3), c .4, calls-go-on n ws (c .1) rs (c .5))
+-- the rotas that `decide`, and then `next` until it ends, leave in the area
+abbrev pub EngineRun : ℕ → List ℕ → List ℕ → List (List ℕ) → Type 1
+EngineRun n ws = RunOf n (NextCall n ws) (DecideCall n ws)
 
 -- demand 3
 pub engine-lists-every-rota : (n : ℕ) (ws r : List ℕ) (rs : List (List ℕ)) → EngineRun n ws r rs → EveryRota n ws (r ∷ rs)
-engine-lists-every-rota n ws r rs c =
-    every-rota-once n ws r rs
-    (record {
-      area = c .area;
-      work = c .work;
-      area′ = c .area′;
-      work′ = c .work′;
-      decided = decide-keeps (c .decided);
-      first = c .first;
-      goesOn = calls-go-on n ws (c .area′) rs (c .nexts);
-    })
+engine-lists-every-rota n ws r rs c = calls-list-every-rota n ws (DecideCall n ws) (NextCall n ws) (decide-keeps n ws) (next-keeps n ws) r rs c

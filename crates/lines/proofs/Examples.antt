@@ -7,19 +7,13 @@ use native.Mathlib.Decide.{ℕ-discrete, decLe, decLt}
 use lib.ListN.{getD, replicate}
 use Rattle.meaning.specs.Rotas.{Forced}
 use Rattle.meaning.specs.Sizes.{over}
-use Rattle.table.specs.Table.{Right, caseG, caseJ}
-use Rattle.table.proofs.Marked.{marked}
+use Rattle.table.specs.Table.{caseJ}
+use Rattle.table.proofs.Marked.{rightG, rightJ}
 use Rattle.meaning.proofs.Tests.{shown, below?, forced?}
 use Rattle.book.specs.Checks.{bookDue}
 use Rattle.lines.specs.declared.answer.Shown.{Shown}
 use Rattle.text.specs.Text.{digits, numbersLine, possibleText, impossibleText, refusalText}
 use Rattle.lines.specs.Promise.{BookText, Shows}
-
-rightG : Right (caseG .n) (caseG .ws) (caseG .answer)
-rightG = marked .1 .1 .1 .1 .1 .1 .0
-
-rightJ : Right (caseJ .n) (caseJ .ws) (caseJ .answer)
-rightJ = marked .1 .1 .1 .1 .1 .1 .1 .1 .1 .0
 
 -- BookText, PossibleTold: case J's book
 pub text-J : BookText (3 ∷ 3 ∷ 0 ∷ 2 ∷ 3 ∷ 4 ∷ 1 ∷ 4 ∷ []) (possibleText 3 3 (0 ∷ 1 ∷ 1 ∷ []) (2 ∷ 2 ∷ 1 ∷ []))

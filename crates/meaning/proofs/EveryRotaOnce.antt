@@ -13,7 +13,7 @@ use Rattle.meaning.specs.Promises.{Answered, After, Decides, Moves}
 use Rattle.meaning.specs.Refusals.{Due, none, refused, listDue, nextDue}
 use Rattle.meaning.specs.Rotas.{Allowed, Possible, First, Next, Ended}
 use Rattle.meaning.specs.Rules.{right}
-use Rattle.meaning.specs.Runs.{Follow, InOrder, GoesOn, Run, OneOf, Ascending, EveryRota}
+use Rattle.meaning.specs.Runs.{Follow, InOrder, GoesOn, RunOf, Run, OneOf, Ascending, EveryRota}
 use Rattle.meaning.specs.Sizes.{rotaNeeds}
 use Rattle.meaning.proofs.RefusalLaws.{not-refused}
 use Rattle.meaning.proofs.OrderLaws.{before-trans, ordered}
@@ -41,7 +41,7 @@ pub ended-ended : {n : ℕ} {ws area work area′ work′ : List ℕ} → Moves 
 ended-ended {n} {ws} {area} {work} p = answered (nextDue n ws area (length work)) (p .refuses) (p .after) .right .1
 
 -- the rotas of a run are in order
-goes-on : (n : ℕ) (ws area : List ℕ) (rs : List (List ℕ)) → GoesOn n ws area rs → Follow n ws (take n area) rs
+goes-on : (n : ℕ) (ws area : List ℕ) (rs : List (List ℕ)) → GoesOn n (Moves n ws) area rs → Follow n ws (take n area) rs
 goes-on n ws area [] g = ended-ended (g .3)
 goes-on n ws area (r ∷ rs) g =
     (rw (g .4) at (moved-next (g .3)), rw (g .4) at (goes-on n ws (g .1) rs (g .5)))
@@ -91,3 +91,24 @@ module _ (n : ℕ) (ws : List ℕ) where
 -- demand 3
 pub every-rota-once : (n : ℕ) (ws r : List ℕ) (rs : List (List ℕ)) → Run n ws r rs → EveryRota n ws (r ∷ rs)
 every-rota-once n ws r rs p = in-order-every n ws r rs (run-in-order n ws r rs p)
+
+-- Whatever is known of the calls of a run, if it tells their promises.
+module _ {ℓ} (n : ℕ) (ws : List ℕ) (decide : List ℕ → List ℕ → Decided → List ℕ → List ℕ → Type ℓ) (next : List ℕ → List ℕ → Moved → List ℕ → List ℕ → Type ℓ)
+    (decide-keeps : (area work : List ℕ) (a : Decided) (area′ work′ : List ℕ) → decide area work a area′ work′ → Decides n ws area work a area′ work′)
+    (next-keeps : (area work : List ℕ) (a : Moved) (area′ work′ : List ℕ) → next area work a area′ work′ → Moves n ws area work a area′ work′) where
+  calls-go-on : (area : List ℕ) (rs : List (List ℕ)) → GoesOn n next area rs → GoesOn n (Moves n ws) area rs
+  calls-go-on area [] c = (c .0, c .1, c .2, next-keeps _ _ _ _ _ (c .3))
+  calls-go-on area (r ∷ rs) c = (c .0, c .1, c .2, next-keeps _ _ _ _ _ (c .3), c .4, calls-go-on (c .1) rs (c .5))
+
+  pub calls-list-every-rota : (r : List ℕ) (rs : List (List ℕ)) → RunOf n next decide r rs → EveryRota n ws (r ∷ rs)
+  calls-list-every-rota r rs c =
+      every-rota-once n ws r rs
+      (record {
+        area = c .area;
+        work = c .work;
+        area′ = c .area′;
+        work′ = c .work′;
+        decided = decide-keeps _ _ _ _ _ (c .decided);
+        first = c .first;
+        goesOn = calls-go-on (c .area′) rs (c .goesOn);
+      })

@@ -20,20 +20,26 @@ abbrev pub InOrder : ℕ → List ℕ → List (List ℕ) → Type 0
 InOrder n ws [] = ⊥
 InOrder n ws (r ∷ rs) = First n ws r × Follow n ws r rs
 
--- Next is called again and again on the rota's area, with any work area each time: it leaves the rotas rs there, one after the other, and then ends
-abbrev pub GoesOn : ℕ → List ℕ → List ℕ → List (List ℕ) → Type 0
-GoesOn n ws area [] = (work area′ work′ : List ℕ) × Moves n ws area work Moved.Ended area′ work′
-GoesOn n ws area (r ∷ rs) = (work area′ work′ : List ℕ) × Moves n ws area work Moved.Moved area′ work′ × (take n area′ ≡ r) × GoesOn n ws area′ rs
+-- A run of calls, whatever is known of a call with its two areas, its answer and what it leaves in them.
+module _ {ℓ} (n : ℕ) (next : List ℕ → List ℕ → Moved → List ℕ → List ℕ → Type ℓ) where
+  -- Next is called again and again on the rota's area, with any work area each time: it leaves the rotas rs there, one after the other, and then ends
+  abbrev pub GoesOn : List ℕ → List (List ℕ) → Type ℓ
+  GoesOn area [] = (work area′ work′ : List ℕ) × next area work Moved.Ended area′ work′
+  GoesOn area (r ∷ rs) = (work area′ work′ : List ℕ) × next area work Moved.Moved area′ work′ × (take n area′ ≡ r) × GoesOn area′ rs
 
--- the rotas of a run that Decide begins
-pub record Run (n : ℕ) (ws r : List ℕ) (rs : List (List ℕ)) : Type 0 where
-  pub area : List ℕ
-  pub work : List ℕ
-  pub area′ : List ℕ
-  pub work′ : List ℕ
-  pub decided : Decides n ws area work Decided.Possible area′ work′
-  pub first : take n area′ ≡ r
-  pub goesOn : GoesOn n ws area′ rs
+  -- the rotas of a run that Decide begins
+  pub record RunOf (decide : List ℕ → List ℕ → Decided → List ℕ → List ℕ → Type ℓ) (r : List ℕ) (rs : List (List ℕ)) : Type ℓ where
+    pub area : List ℕ
+    pub work : List ℕ
+    pub area′ : List ℕ
+    pub work′ : List ℕ
+    pub decided : decide area work Decided.Possible area′ work′
+    pub first : take n area′ ≡ r
+    pub goesOn : GoesOn area′ rs
+
+-- a run of calls of which the promises are known
+abbrev pub Run : ℕ → List ℕ → List ℕ → List (List ℕ) → Type 0
+Run n ws = RunOf n (Moves n ws) (Decides n ws)
 
 -- r is one of the rotas rs
 abbrev pub OneOf : List ℕ → List (List ℕ) → Type 0

@@ -1,11 +1,10 @@
 -- Each definition of specs/ that the marked table does not compute, tried on a small input. Areas hold 7 before a call, so that what stays is seen.
 use mathlib.Core.Path.{_≡_, refl}
-use mathlib.Core.List.{List, [], _∷_, _++_}
-use Prim.Native.Nat.{ℕ, _+_, _*_}
+use mathlib.Core.List.{[], _∷_, _++_}
+use Prim.Native.Nat.{_+_, _*_}
 use native.Mathlib.Omega.{arith}
 use native.Mathlib.Decide.{ℕ-discrete, decLe, decLt}
 use lib.ListN.{getD, replicate}
-use Rattle.meaning.specs.declared.codes.Choice.{Choice}
 use Rattle.meaning.specs.declared.refusal.Refusal.the-variants.{CodeTooHigh, WorkTooShort, ValueTooHigh}
 use Rattle.meaning.specs.declared.answers.Decided.{Decided}
 use Rattle.meaning.specs.declared.answers.Listed.{Listed}
@@ -18,9 +17,9 @@ use Rattle.meaning.specs.Rotas.{Forced}
 use Rattle.meaning.specs.Rules.{InRange, left, right, rules}
 use Rattle.meaning.specs.Runs.{Run, EveryRota}
 use Rattle.meaning.specs.Sizes.{maxChoices, maxRules, wordsRoom, workRoom, rotaNeeds, chainsNeed, tiesNeed, workNeeds, over, cleared}
-use Rattle.table.specs.Table.{Right, Case, caseA, caseB, caseD, caseF, caseG, caseI, caseJ, caseK}
+use Rattle.table.specs.Table.{caseD, caseF, caseG, caseI, caseJ, caseK}
 use Rattle.meaning.proofs.EveryRotaOnce.{every-rota-once}
-use Rattle.table.proofs.Marked.{marked}
+use Rattle.table.proofs.Marked.{rightA, rightB, rightD, rightF, rightG, rightI, rightJ}
 use Rattle.meaning.proofs.Tests.{shown, and?, below?, forced?}
 
 -- codeOf: choice 1 late and early. lastChoice: its early code is the last that fits 16 bits
@@ -71,28 +70,6 @@ pub next-order : (nextDue 2 (0 ∷ 4 ∷ []) (0 ∷ 2 ∷ []) 38 ≡ refused 4 1
     × (nextDue 2 (0 ∷ 3 ∷ []) (0 ∷ 1 ∷ 2 ∷ []) 38 ≡ Due.none)
 unfolding nextDue
 next-order = (refl, refl, refl)
-
--- the marked cases
-rightA : Right (caseA .n) (caseA .ws) (caseA .answer)
-rightA = marked .0
-
-rightB : Right (caseB .n) (caseB .ws) (caseB .answer)
-rightB = marked .1 .0
-
-rightD : Right (caseD .n) (caseD .ws) (caseD .answer)
-rightD = marked .1 .1 .1 .0
-
-rightF : Right (caseF .n) (caseF .ws) (caseF .answer)
-rightF = marked .1 .1 .1 .1 .1 .0
-
-rightG : Right (caseG .n) (caseG .ws) (caseG .answer)
-rightG = marked .1 .1 .1 .1 .1 .1 .0
-
-rightI : Right (caseI .n) (caseI .ws) (caseI .answer)
-rightI = marked .1 .1 .1 .1 .1 .1 .1 .1 .0
-
-rightJ : Right (caseJ .n) (caseJ .ws) (caseJ .answer)
-rightJ = marked .1 .1 .1 .1 .1 .1 .1 .1 .1 .0
 
 -- Decides: Possible on case B with a byte and a word to spare, Impossible on case D, and a refusal on case K
 pub decide-B : Decides 1 [] (7 ∷ 7 ∷ []) (replicate 25 7) Decided.Possible (0 ∷ 7 ∷ []) (replicate 24 0 ++ 7 ∷ [])

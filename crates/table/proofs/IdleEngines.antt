@@ -18,9 +18,9 @@ use Rattle.meaning.specs.Refusals.{numberOf, placeOf, Due, none, listDue, nextD
 use Rattle.meaning.specs.Rotas.{Possible, First, Next, Ended}
 use Rattle.meaning.specs.Rules.{right}
 use Rattle.meaning.specs.Sizes.{rotaNeeds, chainsNeed, tiesNeed, workNeeds, over}
-use Rattle.table.specs.Table.{Right, caseB, caseC, caseD, caseF, caseG, caseI}
+use Rattle.table.specs.Table.{caseD, caseF, caseG, caseI}
 use Rattle.meaning.proofs.EveryRotaOnce.{answered}
-use Rattle.table.proofs.Marked.{marked}
+use Rattle.table.proofs.Marked.{rightB, rightC, rightD, rightF, rightG, rightI}
 use Rattle.meaning.proofs.Once.{decide-once, listed-once, clash-once, next-once}
 use Rattle.meaning.proofs.RefusalLaws.{not-refused}
 use Rattle.meaning.proofs.TwoSat.{lowest}
@@ -44,25 +44,6 @@ Obeys promise run =
 -- a work area of just the length that is needed
 abbrev bench : ℕ → List ℕ → List ℕ
 bench n ws = replicate (workNeeds n ws) 0
-
--- the marked cases
-rightB : Right (caseB .n) (caseB .ws) (caseB .answer)
-rightB = marked .1 .0
-
-rightC : Right (caseC .n) (caseC .ws) (caseC .answer)
-rightC = marked .1 .1 .0
-
-rightD : Right (caseD .n) (caseD .ws) (caseD .answer)
-rightD = marked .1 .1 .1 .0
-
-rightF : Right (caseF .n) (caseF .ws) (caseF .answer)
-rightF = marked .1 .1 .1 .1 .1 .0
-
-rightG : Right (caseG .n) (caseG .ws) (caseG .answer)
-rightG = marked .1 .1 .1 .1 .1 .1 .0
-
-rightI : Right (caseI .n) (caseI .ws) (caseI .answer)
-rightI = marked .1 .1 .1 .1 .1 .1 .1 .1 .0
 
 -- a call on an input on which nothing is due: some answer that says what should be said is the one that is given, with its items in the area
 module _ {A : Type 0} (refusal : A → Due) (says : A → List ℕ → Type 0) (once : (a b : A) (xs ys : List ℕ) → says a xs → says b ys → (a ≡ b) × (xs ≡ ys))

@@ -7,7 +7,7 @@ use lib.ListN.{getD}
 use Rattle.meaning.specs.Codes.{late, early, opposite}
 use Rattle.meaning.specs.Refusals.{Due, none, refused, listDue}
 use Rattle.meaning.specs.Runs.{Follow, InOrder}
-use Rattle.table.specs.Table.{Answer, possible, impossible, refusal, Asked, leastDue, Right, Case, cases, Every}
+use Rattle.table.specs.Table.{Answer, possible, impossible, refusal, Asked, leastDue, Right, Case, caseA, caseB, caseC, caseD, caseF, caseG, caseI, caseJ, cases, Every}
 use Rattle.meaning.proofs.ChainLaws.{clash-impossible}
 use Rattle.meaning.proofs.RefusalLaws.{not-refused}
 use Rattle.meaning.proofs.Reaching.{reach?}
@@ -66,3 +66,28 @@ every? (c ∷ cs) = and? (right? (c .n) (c .ws) (c .answer)) (every? cs)
 pub marked : Every cases
 unfolding ℕ-discrete decLe decLt opposite reach? clash? listDue
 marked = shown (every? cases) tt
+
+-- and each of them alone
+pub rightA : Right (caseA .n) (caseA .ws) (caseA .answer)
+rightA = marked .0
+
+pub rightB : Right (caseB .n) (caseB .ws) (caseB .answer)
+rightB = marked .1 .0
+
+pub rightC : Right (caseC .n) (caseC .ws) (caseC .answer)
+rightC = marked .1 .1 .0
+
+pub rightD : Right (caseD .n) (caseD .ws) (caseD .answer)
+rightD = marked .1 .1 .1 .0
+
+pub rightF : Right (caseF .n) (caseF .ws) (caseF .answer)
+rightF = marked .1 .1 .1 .1 .1 .0
+
+pub rightG : Right (caseG .n) (caseG .ws) (caseG .answer)
+rightG = marked .1 .1 .1 .1 .1 .1 .0
+
+pub rightI : Right (caseI .n) (caseI .ws) (caseI .answer)
+rightI = marked .1 .1 .1 .1 .1 .1 .1 .1 .0
+
+pub rightJ : Right (caseJ .n) (caseJ .ws) (caseJ .answer)
+rightJ = marked .1 .1 .1 .1 .1 .1 .1 .1 .1 .0

@@ -11,9 +11,9 @@ use Rattle.meaning.specs.declared.answers.Moved.{Moved}
 use Rattle.meaning.specs.declared.refusal.Refusal.the-variants.{CodeTooHigh, BookEnds, ValueTooHigh}
 use Rattle.meaning.specs.Refusals.{listDue, nextDue}
 use Rattle.meaning.specs.Sizes.{cleared, workRoom}
-use Rattle.table.specs.Table.{Right, caseB, caseF, caseG, caseI, caseJ, caseK}
+use Rattle.table.specs.Table.{caseF, caseG, caseI, caseJ, caseK}
 use Rattle.table.proofs.Examples.{decide-K, force-J, tie-F, clash-G, move-I}
-use Rattle.table.proofs.Marked.{marked}
+use Rattle.table.proofs.Marked.{rightB}
 use Rattle.book.specs.declared.answer.Read.{Read}
 use Rattle.book.specs.Checks.{bookDue}
 use Rattle.numbers.specs.Numbers.{decidedNumber, decidedValues, listedNumber, listedValues, clashedNumber, clashedValues, movedNumber, movedValues, readNumber, readValues, hostDecided, hostMoved}
@@ -65,9 +65,6 @@ tell-book = inr (record { room = omega arith; answer = Read.Book 1 1; kept = rec
 
 pub tell-short : TellsRead [] [] (7 ∷ 7 ∷ []) 200 [] (7 ∷ 7 ∷ [])
 tell-short = inl (record { short = omega arith; number = refl; stays = refl; outStays = refl })
-
-rightB : Right (caseB .n) (caseB .ws) (caseB .answer)
-rightB = marked .1 .0
 
 -- Turned: the empty book. Called: the book of case B, whose rota 0 is decided, and 1 is next
 pub host-empty : HostDecides [] (7 ∷ []) 7 (7 ∷ [])

@@ -6,11 +6,6 @@ use Rattle.rounds.proofs.Rounds.{tried-possible, tried-failing}
 use borrow.Author.Needs.{needs}
 use Rattle.rounds.proofs.round.try_code.Statement.{statement}
 use Rattle.rounds.proofs.round.try_code.Tie as tie
-use Rattle.rounds.proofs.round.try_code.Reads as reads
-use Rattle.rounds.proofs.round.try_code.Lts as lts
-use Rattle.moves.proofs.attempt.attempt.Reads as attempt-reads
-use Rattle.moves.proofs.layout.set_spare.Reads as set-spare-reads
-use Rattle.search.proofs.settle.teach.Reads as teach-reads
 
 attempt-requires : tie.Need-attempt-requires
 attempt-requires c κs = ((c .before .before .before .pre) .0 .ready, ((c .before .before .before .pre) .0 .holding, (c .before .before .before .pre) .1))
