@@ -1,7 +1,7 @@
 -- The listed books are read as they should be: each case computes.
 use mathlib.Core.Path.{refl}
 use Rattle.book.specs.Checks.{bookDue}
-use Rattle.book.specs.Listed.{books, Every}
+use Rattle.book.specs.Listed.{books, EveryBook}
 
 -- a case, and the others
 infixr 20 _and_
@@ -9,7 +9,7 @@ _and_ : {A B : Type 0} → A → B → A × B
 _and_ a b = (a, b)
 
 -- each answer is as the promise says: refused by number and place, or given with its words
-pub listed : Every books
+pub listed : EveryBook books
 unfolding bookDue _and_
 listed =
     record { refuses = refl; says = (refl, refl, refl) }

@@ -7,18 +7,18 @@ use Rattle.book.specs.declared.answer.Read.{Read}
 use Rattle.book.specs.Promise.{Reads}
 
 -- a book, the words of the area that it is read into, the answer, and the words afterwards
-pub record Case : Type 0 where
+pub record BookCase : Type 0 where
   pub bytes : List ℕ
   pub words : List ℕ
   pub answer : Read
   pub after : List ℕ
 
 -- a book that is refused leaves the words as they were
-abbrev pub refused : List ℕ → List ℕ → Refusal → Case
+abbrev pub refused : List ℕ → List ℕ → Refusal → BookCase
 refused bs words r = record { bytes = bs; words = words; answer = Read.Refused r; after = words }
 
 -- the words of an area are 7 before the call
-abbrev pub books : List Case
+abbrev pub books : List BookCase
 books =
     record { bytes = 0x80 ∷ 0x02 ∷ 0x00 ∷ []; words = 7 ∷ []; answer = Read.Book 256 0; after = 7 ∷ [] }
     ∷ refused (0x81 ∷ 0x02 ∷ []) (7 ∷ []) (TooManyChoices 0)
@@ -39,6 +39,6 @@ books =
     ∷ []
 
 -- every case is as the promise says
-abbrev pub Every : List Case → Type 0
-Every [] = Unit {0}
-Every (c ∷ cs) = Reads (c .bytes) (c .words) (c .answer) (c .after) × Every cs
+abbrev pub EveryBook : List BookCase → Type 0
+EveryBook [] = Unit {0}
+EveryBook (c ∷ cs) = Reads (c .bytes) (c .words) (c .answer) (c .after) × EveryBook cs

@@ -15,12 +15,6 @@ pub(crate) enum Number {
 // A byte with its top bit set is this or more.
 const TOP: usize = 128;
 
-fn wide(byte: u8) -> usize
-    ensures { λ r. ⌜ r ≡ byte ⌝ }
-{
-    byte as usize
-}
-
 // The number at a place, its form checked byte by byte.
 pub(crate) fn number_at(part: &[u8], from: usize, at: usize) -> Number
     requires { ⌜ (from + length (now part) < 2 ^ 64) × (at ≤ length (now part)) ⌝ }
@@ -29,7 +23,7 @@ pub(crate) fn number_at(part: &[u8], from: usize, at: usize) -> Number
     if part.len() <= at {
         return Number::Refused(Refusal::BookEnds(from + at));
     }
-    let low = wide(part[at]);
+    let low = part[at] as usize;
     let second = at + 1;
     if low < TOP {
         return Number::Value {
@@ -40,7 +34,7 @@ pub(crate) fn number_at(part: &[u8], from: usize, at: usize) -> Number
     if part.len() <= second {
         return Number::Refused(Refusal::BookEnds(from + second));
     }
-    let high = wide(part[second]);
+    let high = part[second] as usize;
     if TOP <= high {
         return Number::Refused(Refusal::NumberTooLong(from + second));
     }

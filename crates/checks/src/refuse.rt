@@ -35,19 +35,13 @@ fn highest(words: &[u16]) -> u16
     top
 }
 
-fn wide(x: u16) -> usize
-    ensures { λ r. ⌜ r ≡ x ⌝ }
-{
-    x as usize
-}
-
 // The place of the first word that is limit or more, or the length.
 fn first_over(words: &[u16], limit: usize) -> usize
     ensures { λ r. ⌜ r ≡ firstOver limit (now (words .entry)) ⌝ }
 {
     let mut i = 0;
     while i < words.len() {
-        if limit <= wide(words[i]) {
+        if limit <= words[i] as usize {
             return i;
         }
         i += 1;
@@ -58,7 +52,7 @@ fn first_over(words: &[u16], limit: usize) -> usize
 fn code_too_high(words: &[u16], limit: usize) -> usize
     ensures { λ r. ⌜ r ≡ firstOver limit (now (words .entry)) ⌝ }
 {
-    if wide(highest(words)) < limit {
+    if (highest(words) as usize) < limit {
         return words.len();
     }
     first_over(words, limit)

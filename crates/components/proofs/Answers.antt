@@ -8,7 +8,7 @@ use native.Mathlib.Omega.{arith}
 use native.Mathlib.Numerals.{add-one}
 use lib.ListN.{length}
 use Rattle.components.specs.Leads.{leadOf, Leads, SomeClash, TiesPut}
-use Rattle.components.specs.Walk.{State}
+use Rattle.components.specs.Walk.{WalkState}
 use Rattle.meaning.specs.Chains.{Clash, LowestClash, Tied, Tie}
 use Rattle.meaning.specs.Codes.{late, early, opposite}
 use Rattle.meaning.specs.Rotas.{Possible, First}
@@ -22,7 +22,7 @@ use Rattle.meaning.proofs.General.{below-suc, build, length-build, getD-build}
 use Rattle.meaning.proofs.TwoSat.{possible-or-clash}
 
 -- before the walk no code is met, and each cursor is the head of its list
-pub begin : {n : ℕ} {ws W : List ℕ} → Ready n ws W → ((x : ℕ) → x < 2 * n → mark n W x ≡ 0) → State n ws W 0 0
+pub begin : {n : ℕ} {ws W : List ℕ} → Ready n ws W → ((x : ℕ) → x < 2 * n → mark n W x ≡ 0) → WalkState n ws W 0 0
 begin {n} {ws} {W} rd z =
     record {
       stacked = λ p l. absurd (omega arith);

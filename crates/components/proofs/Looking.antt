@@ -6,7 +6,7 @@ use mathlib.Core.List.{List}
 use native.Mathlib.Omega.{arith}
 use lib.ListN.{length, getD, set}
 use Rattle.components.specs.Leads.{settledRank}
-use Rattle.components.specs.Walk.{Met, Closed, Least, cursor, Old, Scanned, Stacked, Settled, across, Lone}
+use Rattle.components.specs.Walk.{Ranked, PartClosed, Least, cursor, Old, Scanned, Stacked, Settled, opposites, Lone}
 use Rattle.meaning.specs.Chains.{Step}
 use Rattle.meaning.specs.Codes.{opposite}
 use Rattle.moves.specs.Layout.{markAt, mark, trail, next, Tables, Sizes}
@@ -25,7 +25,7 @@ pub record Scanning (n : ℕ) (ws W : List ℕ) (a low e : ℕ) : Type 0 where
   pub less : low ≤ mark n W a
   pub why : (low ≡ mark n W a) ⊎ ((z : ℕ) × ((k : ℕ) × Step ws a k z) × (mark n W z ≡ low))
   pub cur : Cursor ws a e
-  pub seen : (i : ℕ) → i < length ws → getD ws i 0 ≡ opposite a → Passed e i → Old n W a i ⊎ Met n W low (getD ws (opposite i) 0)
+  pub seen : (i : ℕ) → i < length ws → getD ws i 0 ≡ opposite a → Passed e i → Old n W a i ⊎ Ranked n W low (getD ws (opposite i) 0)
 
 -- it holds before the first end
 pub scan-start : {n : ℕ} {ws W : List ℕ} {a low e : ℕ} → 0 < mark n W a → Cursor ws a (cursor n W a) → low ≡ mark n W a → e ≡ cursor n W a
@@ -59,7 +59,7 @@ module _ {n : ℕ} {ws W : List ℕ} {a low e z e′ : ℕ} (s : Sizes n ws W) (
         cur = cursor-next nx (h .cur) p qe;
         seen = λ i l q u. ⊎-elim
             (λ (v : i ≡ e - 1). inr (rw (v, ← qz) (omega arith, l1)))
-            (λ (v : Passed e i). ⊎-elim (λ w. inl w) (λ (w : Met n W low (getD ws (opposite i) 0)). inr (w .0, omega (arith, w .1))) (h .seen i l q v))
+            (λ (v : Passed e i). ⊎-elim (λ w. inl w) (λ (w : Ranked n W low (getD ws (opposite i) 0)). inr (w .0, omega (arith, w .1))) (h .seen i l q v))
             (cursor-passed nx (h .cur) p qe i l q u);
       }
 
@@ -74,7 +74,7 @@ module _ {n : ℕ} {ws W : List ℕ} {a low e z e′ : ℕ} (s : Sizes n ws W) (
         cur = cursor-next nx (h .cur) p qe;
         seen = λ i l q u. ⊎-elim
             (λ (v : i ≡ e - 1). inr (inr (rw (v, ← qz) refl)))
-            (λ (v : Passed e i). ⊎-elim (λ w. inl w) (λ (w : Met n W low (getD ws (opposite i) 0)). inr (inl w)) (h .seen i l q v))
+            (λ (v : Passed e i). ⊎-elim (λ w. inl w) (λ (w : Ranked n W low (getD ws (opposite i) 0)). inr (inl w)) (h .seen i l q v))
             (cursor-passed nx (h .cur) p qe i l q u);
         new = λ u. rw f (step-to s a (scan-step .0) z (scan-step .1), r0, scan-step);
         end = λ u. absurd (omega arith);
@@ -88,7 +88,7 @@ scan-end {n} {ws} {W} {a} {low} {e} h z =
       less = h .less;
       why = h .why;
       cur = record { at = λ u. absurd (omega arith) };
-      seen = λ i l q u. ⊎-elim (λ w. inl w) (λ (w : Met n W low (getD ws (opposite i) 0)). inr (inl w)) (h .seen i l q (inl (omega arith)));
+      seen = λ i l q u. ⊎-elim (λ w. inl w) (λ (w : Ranked n W low (getD ws (opposite i) 0)). inr (inl w)) (h .seen i l q (inl (omega arith)));
       new = λ u. absurd (omega arith);
       end = λ u. refl;
     }
@@ -144,12 +144,12 @@ settle-more {n} {d} {p} {v} {x} {g} {W₀} {W} {W′} room dp lx here qw h =
 pub record Loning (n d t : ℕ) (W : List ℕ) (l p : ℕ) : Type 0 where
   pub from : d ≤ p
   pub to : p ≤ t
-  pub at : (q : ℕ) × (d ≤ q) × (q < t) × (across n W q ≡ l)
-  pub less : (q : ℕ) → d ≤ q → q < p → l ≤ across n W q
-  pub unmet : (q : ℕ) → d ≤ q → q < p → mark n W (across n W q) ≡ 0
+  pub at : (q : ℕ) × (d ≤ q) × (q < t) × (opposites n W q ≡ l)
+  pub less : (q : ℕ) → d ≤ q → q < p → l ≤ opposites n W q
+  pub unmet : (q : ℕ) → d ≤ q → q < p → mark n W (opposites n W q) ≡ 0
 
 -- one opposite more was not met
-pub lone-more : {n d t l p l′ : ℕ} {W : List ℕ} → p < t → Loning n d t W l p → mark n W (across n W p) ≡ 0 → l′ ≤ l → l′ ≤ across n W p → (l′ ≡ l) ⊎ (l′ ≡ across n W p)
+pub lone-more : {n d t l p l′ : ℕ} {W : List ℕ} → p < t → Loning n d t W l p → mark n W (opposites n W p) ≡ 0 → l′ ≤ l → l′ ≤ opposites n W p → (l′ ≡ l) ⊎ (l′ ≡ opposites n W p)
     → Loning n d t W l′ (p + 1)
 lone-more {n} {d} {t} {l} {p} {l′} {W} pt h z a b c =
     record {
@@ -157,7 +157,7 @@ lone-more {n} {d} {t} {l} {p} {l′} {W} pt h z a b c =
       to = omega arith;
       at = ⊎-elim
           (λ (e : l′ ≡ l). (h .at .0, h .at .1, h .at .2, h .at .3 ∙ sym e))
-          (λ (e : l′ ≡ across n W p). (p, h .from, pt, sym e))
+          (λ (e : l′ ≡ opposites n W p). (p, h .from, pt, sym e))
           c;
       less = λ q u v. ⊎-elim (λ (e : q ≡ p). rw e b) (λ (e : q ≢ p). omega (arith, h .less q u (omega arith))) (same? q p);
       unmet = λ q u v. ⊎-elim (λ (e : q ≡ p). rw e z) (λ (e : q ≢ p). h .unmet q u (omega arith)) (same? q p);
@@ -179,7 +179,7 @@ lone-small {n} {d} {t} {o} {W} s h p =
     omega (arith, at .3, opposite-below n (trail n W (at .0)) (s .codes (at .0) (at .2)))
 
 -- `close`: the codes at the top are settled, alone or with their opposites
-pub closed-alone : {n d t l v : ℕ} {W W′ : List ℕ} → Least (trail n W) d t l → v ≡ settledRank n l → Settled n (trail n W) d t v W W′ → Closed n d t W W′
+pub closed-alone : {n d t l v : ℕ} {W W′ : List ℕ} → Least (trail n W) d t l → v ≡ settledRank n l → Settled n (trail n W) d t v W W′ → PartClosed n d t W W′
 closed-alone {n} {d} {t} {l} {v} {W} {W′} a q b =
     record {
       mid = W′;
@@ -194,7 +194,7 @@ closed-alone {n} {d} {t} {l} {v} {W} {W′} a q b =
 
 -- with their opposites
 pub closed-both : (m : ℕ) {n d t l v u : ℕ} {W M W′ : List ℕ} → Least (trail n W) d t l → v ≡ settledRank n l → Settled n (trail n W) d t v W M
-    → Lone n d t M (m + 1) → u ≡ settledRank n m → Settled n (across n M) d t u M W′ → Closed n d t W W′
+    → Lone n d t M (m + 1) → u ≡ settledRank n m → Settled n (opposites n M) d t u M W′ → PartClosed n d t W W′
 closed-both m {n} {d} {t} {l} {v} {u} {W} {M} {W′} a q b o q′ c =
     let e : u ≡ 2 * n + (m + 1) = omega arith in
     record {

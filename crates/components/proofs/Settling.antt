@@ -6,7 +6,7 @@ use mathlib.Core.List.{List, [], _∷_}
 use native.Mathlib.Omega.{arith}
 use lib.ListN.{getD}
 use Rattle.components.specs.Leads.{Lead}
-use Rattle.components.specs.Walk.{In, Past, Dfs}
+use Rattle.components.specs.Walk.{In, Accounted, Dfs}
 use Rattle.meaning.specs.Chains.{Step, Chain, Reach, Tied}
 use Rattle.meaning.specs.Codes.{opposite}
 use Rattle.components.proofs.Walking.{unsettled}
@@ -94,14 +94,14 @@ module _ {N : ℕ} {ws : List ℕ} {r s d cu : ℕ → ℕ} {t m : ℕ} (h : Dfs
       (λ (e : w .0 ≢ d m). h .spent m (w .0) (in-last (w .0) (w .1) (w .2)) (omega (arith, w .1)))
       (same? (w .0) (d m)) in
       let end = ok .ends x k y st in
-      let past : Past r s t (w .0) y = subst (λ (z : ℕ). Past r s t (w .0) z) (end .3)
+      let past : Accounted r s t (w .0) y = subst (λ (z : ℕ). Accounted r s t (w .0) z) (end .3)
       (h .seen (w .0) (end .0) (w .2) (end .1) (end .2 ∙ ap opposite (sym (w .3))) (inl done-too)) in
       go (kind y (step-lt ok st) (past .has)) past
     where
       round-trip : Tied ws y (s (w .0))
       round-trip = subst (λ (z : ℕ). Tied ws y z) (sym (w .3)) (back, once st)
 
-      go : Kind y → Past r s t (w .0) y → Top y
+      go : Kind y → Accounted r s t (w .0) y → Top y
       go (before g e) past = absurd (omega (arith, h .whole y (s (w .0)) (step-lt ok st) g round-trip, unsettled h (w .0) (w .2)))
       go (stays q u e g) past = absurd (omega (arith, past .low q (omega (arith, last-on-stack)) e, h .lows m (w .0) (in-last (w .0) (w .1) (w .2)), root))
       go (now′ q u v e g) past = (q, u, v, e, g)

@@ -5,7 +5,7 @@ use mathlib.Core.Logic.{⊎-elim, _≢_}
 use mathlib.Core.List.{List}
 use native.Mathlib.Omega.{arith}
 use Rattle.components.specs.Leads.{Leads, Side}
-use Rattle.components.specs.Walk.{cursor, State, Turned, Searched}
+use Rattle.components.specs.Walk.{cursor, WalkState, TurnMade, Searched}
 use Rattle.meaning.specs.Codes.{opposite}
 use Rattle.moves.specs.Layout.{mark, trail, spare, Sizes}
 use Rattle.moves.specs.Lists.{Nexts}
@@ -36,14 +36,14 @@ nexts-side {n} {ws} {W} {W′} x p = record { nexts = λ e l. rw (p .nexts e) (x
 
 -- the invariant of the loop of `search`
 pub record Searching (n : ℕ) (ws : List ℕ) (root : ℕ) (W₀ W : List ℕ) (t k : ℕ) : Type 0 where
-  pub state : State n ws W t k
+  pub state : WalkState n ws W t k
   pub side : Side n W₀ W
   pub met : (x : ℕ) → x < 2 * n → 0 < mark n W₀ x → 0 < mark n W x
   pub got : 0 < mark n W root
 
 -- the walk begins with root alone on the stack
-pub search-push : {n : ℕ} {ws W W′ : List ℕ} {root : ℕ} → Sizes n ws W → State n ws W 0 0 → root < 2 * n → mark n W root ≡ 0 → Pushed n root 0 0 W W′
-    → State n ws W′ 1 1 × Side n W W′ × ((x : ℕ) → x < 2 * n → 0 < mark n W x → 0 < mark n W′ x) × (0 < mark n W′ root)
+pub search-push : {n : ℕ} {ws W W′ : List ℕ} {root : ℕ} → Sizes n ws W → WalkState n ws W 0 0 → root < 2 * n → mark n W root ≡ 0 → Pushed n root 0 0 W W′
+    → WalkState n ws W′ 1 1 × Side n W W′ × ((x : ℕ) → x < 2 * n → 0 < mark n W x → 0 < mark n W′ x) × (0 < mark n W′ root)
 search-push {n} {ws} {W} {W′} {root} sz h l z p = (
   pushed
       (alike (trail n W′) (spare n W′) (cursor n W′) (λ q u. absurd (omega arith)) (λ j u. absurd (omega arith))
@@ -59,7 +59,7 @@ search-push {n} {ws} {W} {W′} {root} sz h l z p = (
 
 -- a turn keeps it
 pub search-turn : {n : ℕ} {ws : List ℕ} {root : ℕ} {W₀ W : List ℕ} {t k : ℕ} {W′ : List ℕ} {t′ k′ : ℕ}
-    → root < 2 * n → Searching n ws root W₀ W t k → Turned n ws W t k W′ t′ k′ → Searching n ws root W₀ W′ t′ k′
+    → root < 2 * n → Searching n ws root W₀ W t k → TurnMade n ws W t k W′ t′ k′ → Searching n ws root W₀ W′ t′ k′
 search-turn {n} {ws} {root} l s r =
     record {
       state = r .state;
@@ -75,7 +75,7 @@ search-done {n} {ws} {root} {E} {W₀} {W} {t} {k} sd mt s z =
     let ek : k ≡ 0 = omega arith in
     let et : t ≡ 0 = s .state .floor .0 ek in
     record {
-      state = subst (λ (y : ℕ). State n ws W 0 y) ek (subst (λ (y : ℕ). State n ws W y k) et (s .state));
+      state = subst (λ (y : ℕ). WalkState n ws W 0 y) ek (subst (λ (y : ℕ). WalkState n ws W y k) et (s .state));
       side = side-trans sd (s .side);
       met = λ x u m. s .met x u (mt x u m);
       got = s .got;
@@ -83,7 +83,7 @@ search-done {n} {ws} {root} {E} {W₀} {W} {t} {k} sd mt s z =
 
 -- the invariant of the loop of `components`
 pub record Sweeping (n : ℕ) (ws W₀ W : List ℕ) (x : ℕ) : Type 0 where
-  pub state : State n ws W 0 0
+  pub state : WalkState n ws W 0 0
   pub side : Side n W₀ W
   pub met : (y : ℕ) → y < x → 0 < mark n W y
   pub within : x ≤ 2 * n

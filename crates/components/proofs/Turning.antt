@@ -6,7 +6,7 @@ use mathlib.Core.List.{List}
 use native.Mathlib.Omega.{arith}
 use lib.ListN.{length, getD}
 use Rattle.components.specs.Leads.{Lead, Side}
-use Rattle.components.specs.Walk.{Met, Closed, Least, cursor, Past, Dfs, State, Old, Scanned, Stacked, Beyond, Settled, across, Lifted, Turned}
+use Rattle.components.specs.Walk.{Ranked, PartClosed, Least, cursor, Accounted, Dfs, WalkState, Old, Scanned, Stacked, Beyond, Settled, opposites, Lifted, TurnMade}
 use Rattle.meaning.specs.Chains.{Step, Reach, Tied}
 use Rattle.meaning.specs.Codes.{opposite}
 use Rattle.moves.specs.Layout.{mark, trail, spare, next, Tables, Sizes}
@@ -38,7 +38,7 @@ pub record Last (n : ℕ) (W : List ℕ) (t k : ℕ) : Type 0 where
   pub met : 0 < mark n W (lastCode n W k)
   pub own : mark n W (lastCode n W k) ≤ lastPlace n W k + 1
 
-module _ {n : ℕ} {ws W : List ℕ} {t k : ℕ} (sz : Sizes n ws W) (pk : 0 < k) (h : State n ws W t k) where
+module _ {n : ℕ} {ws W : List ℕ} {t k : ℕ} (sz : Sizes n ws W) (pk : 0 < k) (h : WalkState n ws W t k) where
   -- the path has a last place
   last-on-path : k - 1 < k
   last-on-path = omega arith
@@ -114,7 +114,7 @@ module _ {n : ℕ} {ws W : List ℕ} {t k : ℕ} (sz : Sizes n ws W) (pk : 0 < k
         (rw (nt .rank) (reaches f)) (words-of sz)
 
     -- a step to a code that was met
-    noted-past : (z : ℕ) → z < 2 * n → Met n W low z → Past (mark n W₁) (trail n W) t (lastPlace n W k) z
+    noted-past : (z : ℕ) → z < 2 * n → Ranked n W low z → Accounted (mark n W₁) (trail n W) t (lastPlace n W k) z
     noted-past z l m =
         record {
           has = noted-met z l (m .0);
@@ -122,14 +122,14 @@ module _ {n : ℕ} {ws W : List ℕ} {t k : ℕ} (sz : Sizes n ws W) (pk : 0 < k
         }
 
     -- nothing new was met
-    noted-state : hit ≡ 0 → State n ws W₁ t k
+    noted-state : hit ≡ 0 → WalkState n ws W₁ t k
     noted-state q0 =
         alike (trail n W₁) (spare n W₁) (cursor n W₁) (λ p l. nt .trails p) (λ j l. nt .spares j) (λ x l. refl) (fits h)
         (advanced noted-walk (k - 1) last-on-path (cursor n W₁) (nt .curs) (rw (nt .cur) (f .cur .at))
         (λ i l q u. ⊎-elim
         (λ (w : Old n W (lastCode n W k) i). noted-walk .seen (lastPlace n W k) i (last-of .place) l q w)
         (λ w. ⊎-elim
-        (λ (v : Met n W low (getD ws (opposite i) 0)). noted-past (getD ws (opposite i) 0) (target i l) v)
+        (λ (v : Ranked n W low (getD ws (opposite i) 0)). noted-past (getD ws (opposite i) 0) (target i l) v)
         (λ (v : getD ws (opposite i) 0 + 1 ≡ hit). absurd (omega (arith, v)))
         w)
         (f .seen i l q (rw (nt .cur) at u))))
@@ -224,7 +224,7 @@ module _ {n : ℕ} {ws W : List ℕ} {t k : ℕ} (sz : Sizes n ws W) (pk : 0 < k
           (same? x (hit - 1))
 
       -- a step is taken into account where its code is met and lies no lower than the rank
-      pushed-past : (z : ℕ) → 0 < mark n W₂ z → ((q : ℕ) → q < t → trail n W q ≡ z → low ≤ q + 1) → Past (mark n W₂) (trail n W₂) (t + 1) (lastPlace n W₂ k) z
+      pushed-past : (z : ℕ) → 0 < mark n W₂ z → ((q : ℕ) → q < t → trail n W q ≡ z → low ≤ q + 1) → Accounted (mark n W₂) (trail n W₂) (t + 1) (lastPlace n W₂ k) z
       pushed-past z p g =
           record {
             has = p;
@@ -235,15 +235,15 @@ module _ {n : ℕ} {ws W : List ℕ} {t k : ℕ} (sz : Sizes n ws W) (pk : 0 < k
           }
 
       -- the walk with the cursor moved on
-      pushed-state : State n ws W₂ (t + 1) (k + 1)
+      pushed-state : WalkState n ws W₂ (t + 1) (k + 1)
       pushed-state =
           advanced pushed-walk (k - 1) (omega arith) (cursor n W₂)
           (λ x l d. pushed-cursors x l ∙ nt .curs x l (λ q. d (q ∙ sym pushed-code)))
           (rw (pushed-code, pushed-cursor) (f .cur .at))
           (λ i l q u. ⊎-elim
           (λ (w : Old n W (lastCode n W k) i). pushed-walk .seen (lastPlace n W₂ k) i (omega (arith, pushed-place, last-of .place)) l q (rw pushed-code w))
-          (λ (w : Met n W low (getD ws (opposite i) 0) ⊎ (getD ws (opposite i) 0 + 1 ≡ hit)). ⊎-elim
-          (λ (v : Met n W low (getD ws (opposite i) 0)).
+          (λ (w : Ranked n W low (getD ws (opposite i) 0) ⊎ (getD ws (opposite i) 0 + 1 ≡ hit)). ⊎-elim
+          (λ (v : Ranked n W low (getD ws (opposite i) 0)).
           pushed-past (getD ws (opposite i) 0) (pushed-met (getD ws (opposite i) 0) (target i l) (v .0)) (λ q′ a b. omega (arith, v .1, ap (mark n W) b, h .stacked q′ a .2)))
           (λ (v : getD ws (opposite i) 0 + 1 ≡ hit).
           let y : getD ws (opposite i) 0 ≡ hit - 1 = omega arith in
@@ -252,7 +252,7 @@ module _ {n : ℕ} {ws W : List ℕ} {t k : ℕ} (sz : Sizes n ws W) (pk : 0 < k
           (f .seen i l (q ∙ ap opposite pushed-code) (rw (pushed-code, pushed-cursor) at u)))
 
       -- the turn that goes down
-      pub turn-push : Turned n ws W t k W₂ (t + 1) (k + 1)
+      pub turn-push : TurnMade n ws W t k W₂ (t + 1) (k + 1)
       turn-push =
           record {
             state = pushed-state;
@@ -268,10 +268,10 @@ module _ {n : ℕ} {ws W : List ℕ} {t k : ℕ} (sz : Sizes n ws W) (pk : 0 < k
           }
 
     -- ---- a component less, or two
-    module _ {W₅ : List ℕ} (q0 : hit ≡ 0) (root : low ≡ lastPlace n W k + 1) (cl : Closed n (lastPlace n W k) t W₁ W₅) where
+    module _ {W₅ : List ℕ} (q0 : hit ≡ 0) (root : low ≡ lastPlace n W k + 1) (cl : PartClosed n (lastPlace n W k) t W₁ W₅) where
       -- the state before, with a last place
-      closing-state : State n ws W₁ t (k - 1 + 1)
-      closing-state = subst (λ (x : ℕ). State n ws W₁ t x) {x = k} {y = k - 1 + 1} (omega arith) (noted-state q0)
+      closing-state : WalkState n ws W₁ t (k - 1 + 1)
+      closing-state = subst (λ (x : ℕ). WalkState n ws W₁ t x) {x = k} {y = k - 1 + 1} (omega arith) (noted-state q0)
 
       -- what `close` found and stored, said of the noted area
       closing-least : Least (trail n W₁) (lastPlace n W₁ k) t (cl .small)
@@ -296,7 +296,7 @@ module _ {n : ℕ} {ws W : List ℕ} {t k : ℕ} (sz : Sizes n ws W) (pk : 0 < k
       place-fits = omega (arith, same-place, last-of .place, last-of .few)
 
       -- the state after the first store
-      closed-state : State n ws (cl .mid) (lastPlace n W₁ k) (k - 1)
+      closed-state : WalkState n ws (cl .mid) (lastPlace n W₁ k) (k - 1)
       closed-state =
           alike (trail n (cl .mid)) (spare n (cl .mid)) (cursor n (cl .mid)) (λ p u. closing-settled .beyond .trails p) (λ j u. closing-settled .beyond .spares j)
           (λ x u. closing-settled .beyond .heads (opposite x) (opposite-below n x u)) place-fits closed-walk
@@ -306,10 +306,10 @@ module _ {n : ℕ} {ws W : List ℕ} {t k : ℕ} (sz : Sizes n ws W) (pk : 0 < k
       closed-met x u p = alive closing-state (words-of sz) closing-done closing-root (mark n (cl .mid)) (cl .small) (closing-least .at) (closing-least .less) (closing-settled .new) (closing-settled .old) x u (noted-met x u p)
 
       -- the opposites are not a component less
-      close-one : cl .mirrored ≡ 0 → Turned n ws W t k W₅ (lastPlace n W k) (k - 1)
+      close-one : cl .mirrored ≡ 0 → TurnMade n ws W t k W₅ (lastPlace n W k) (k - 1)
       close-one z =
           rw (cl .keeps z) (record {
-            state = subst (λ (x : ℕ). State n ws (cl .mid) x (k - 1)) same-place closed-state;
+            state = subst (λ (x : ℕ). WalkState n ws (cl .mid) x (k - 1)) same-place closed-state;
             side = side (closing-settled .beyond .long) (closing-settled .beyond .nexts);
             met = closed-met;
             less = omega (arith, count-mono (mark n W) (mark n (cl .mid)) (2 * n) closed-met);
@@ -318,13 +318,13 @@ module _ {n : ℕ} {ws W : List ℕ} {t k : ℕ} (sz : Sizes n ws W) (pk : 0 < k
       -- they are
       module _ (z : 0 < cl .mirrored) where
         -- what `lone` found and `mirror` stored, said of the noted area
-        mirror-settled : Settled n (across n (cl .mid)) (lastPlace n W₁ k) t (2 * n + cl .mirrored) (cl .mid) W₅
+        mirror-settled : Settled n (opposites n (cl .mid)) (lastPlace n W₁ k) t (2 * n + cl .mirrored) (cl .mid) W₅
         mirror-settled = rw same-place (cl .mirrors z)
 
-        mirror-least : Least (across n (cl .mid)) (lastPlace n W₁ k) t (cl .mirrored - 1)
+        mirror-least : Least (opposites n (cl .mid)) (lastPlace n W₁ k) t (cl .mirrored - 1)
         mirror-least = rw same-place (cl .lone .least z)
 
-        mirror-unmet : (p : ℕ) → lastPlace n W₁ k ≤ p → p < t → mark n (cl .mid) (across n (cl .mid) p) ≡ 0
+        mirror-unmet : (p : ℕ) → lastPlace n W₁ k ≤ p → p < t → mark n (cl .mid) (opposites n (cl .mid) p) ≡ 0
         mirror-unmet p a b = cl .lone .unmet z p (omega (arith, same-place)) b
 
         -- the stack stays
@@ -332,60 +332,60 @@ module _ {n : ℕ} {ws W : List ℕ} {t k : ℕ} (sz : Sizes n ws W) (pk : 0 < k
         mid-stack p = closing-settled .beyond .trails p
 
         -- places at the top reach each other, and nothing else does both
-        mirror-round : (p q : ℕ) → lastPlace n W₁ k ≤ p → p < t → lastPlace n W₁ k ≤ q → q < t → Reach ws (across n (cl .mid) p) (across n (cl .mid) q)
+        mirror-round : (p q : ℕ) → lastPlace n W₁ k ≤ p → p < t → lastPlace n W₁ k ≤ q → q < t → Reach ws (opposites n (cl .mid) p) (opposites n (cl .mid) q)
         mirror-round p q a b a′ b′ =
             rw (mid-stack p, mid-stack q) (reach-flip ws (trail n W₁ q) (trail n W₁ p)
             (round closing-state (words-of sz) closing-done closing-root (mark n (cl .mid)) (cl .small) (closing-least .at) (closing-least .less) (closing-settled .new) (closing-settled .old) q p a′ b′ a b))
 
         -- and what is tied to one of them is one of them
-        mirror-exact : (p : ℕ) → lastPlace n W₁ k ≤ p → p < t → (y : ℕ) → Tied ws (across n (cl .mid) p) y
-            → (q : ℕ) × (lastPlace n W₁ k ≤ q) × (q < t) × (across n (cl .mid) q ≡ y)
+        mirror-exact : (p : ℕ) → lastPlace n W₁ k ≤ p → p < t → (y : ℕ) → Tied ws (opposites n (cl .mid) p) y
+            → (q : ℕ) × (lastPlace n W₁ k ≤ q) × (q < t) × (opposites n (cl .mid) q ≡ y)
         mirror-exact p a b y u =
             let w = exact closing-state (words-of sz) closing-done closing-root (mark n (cl .mid)) (cl .small) (closing-least .at) (closing-least .less) (closing-settled .new) (closing-settled .old) p a b (opposite y)
             (turned-to (rw (mid-stack p) at (u .1)), turned-from (rw (mid-stack p) at (u .0))) in
             (w .0, w .1, w .2, ap opposite (mid-stack (w .0) ∙ w .3) ∙ opposite-opposite y)
 
         -- so the smallest of them is the lead of each
-        mirror-leads : (p : ℕ) → lastPlace n W₁ k ≤ p → p < t → Lead ws (across n (cl .mid) p) (cl .mirrored - 1)
+        mirror-leads : (p : ℕ) → lastPlace n W₁ k ≤ p → p < t → Lead ws (opposites n (cl .mid) p) (cl .mirrored - 1)
         mirror-leads p a b =
             let l = mirror-least .at in
             record {
-              tied = subst (λ (x : ℕ). Tied ws (across n (cl .mid) p) x) (l .3) (mirror-round p (l .0) a b (l .1) (l .2), mirror-round (l .0) p (l .1) (l .2) a b);
+              tied = subst (λ (x : ℕ). Tied ws (opposites n (cl .mid) p) x) (l .3) (mirror-round p (l .0) a b (l .1) (l .2), mirror-round (l .0) p (l .1) (l .2) a b);
               smallest = λ y u.
                   let w = mirror-exact p a b y u in
                   omega (arith, mirror-least .less (w .0) (w .1) (w .2), w .3);
             }
 
         -- which their ranks tell
-        mirror-ranks : (p : ℕ) → lastPlace n W₁ k ≤ p → p < t → mark n W₅ (across n (cl .mid) p) ≡ 2 * n + 1 + (cl .mirrored - 1)
+        mirror-ranks : (p : ℕ) → lastPlace n W₁ k ≤ p → p < t → mark n W₅ (opposites n (cl .mid) p) ≡ 2 * n + 1 + (cl .mirrored - 1)
         mirror-ranks p a b = omega (arith, mirror-settled .new p a b)
 
         -- the opposites are settled
         mirror-walk : Dfs (2 * n) ws (mark n W₅) (trail n (cl .mid)) (spare n (cl .mid)) (cursor n (cl .mid)) (lastPlace n W₁ k) (k - 1)
-        mirror-walk = mirrored closed-state (words-of sz) (mark n W₅) (across n (cl .mid)) (lastPlace n W₁ k) t (cl .mirrored - 1) mirror-unmet mirror-ranks (mirror-settled .old) mirror-leads mirror-exact
+        mirror-walk = mirrored closed-state (words-of sz) (mark n W₅) (opposites n (cl .mid)) (lastPlace n W₁ k) t (cl .mirrored - 1) mirror-unmet mirror-ranks (mirror-settled .old) mirror-leads mirror-exact
 
         -- what was met stays met
         mirror-met : (x : ℕ) → x < 2 * n → 0 < mark n W x → 0 < mark n W₅ x
-        mirror-met x u p = lives closed-state (words-of sz) (mark n W₅) (across n (cl .mid)) (lastPlace n W₁ k) t (cl .mirrored - 1) mirror-unmet mirror-ranks (mirror-settled .old) mirror-leads mirror-exact x u (closed-met x u p)
+        mirror-met x u p = lives closed-state (words-of sz) (mark n W₅) (opposites n (cl .mid)) (lastPlace n W₁ k) t (cl .mirrored - 1) mirror-unmet mirror-ranks (mirror-settled .old) mirror-leads mirror-exact x u (closed-met x u p)
 
         -- the state after the second store
-        mirror-state : State n ws W₅ (lastPlace n W₁ k) (k - 1)
+        mirror-state : WalkState n ws W₅ (lastPlace n W₁ k) (k - 1)
         mirror-state =
             alike (trail n W₅) (spare n W₅) (cursor n W₅) (λ p u. mirror-settled .beyond .trails p) (λ j u. mirror-settled .beyond .spares j)
             (λ x u. mirror-settled .beyond .heads (opposite x) (opposite-below n x u)) place-fits mirror-walk
 
         -- a component and its mirror image less
-        close-two : Turned n ws W t k W₅ (lastPlace n W k) (k - 1)
+        close-two : TurnMade n ws W t k W₅ (lastPlace n W k) (k - 1)
         close-two =
             record {
-              state = subst (λ (x : ℕ). State n ws W₅ x (k - 1)) same-place mirror-state;
+              state = subst (λ (x : ℕ). WalkState n ws W₅ x (k - 1)) same-place mirror-state;
               side = side (mirror-settled .beyond .long ∙ closing-settled .beyond .long) (λ e. mirror-settled .beyond .nexts e ∙ closing-settled .beyond .nexts e);
               met = mirror-met;
               less = omega (arith, count-mono (mark n W) (mark n W₅) (2 * n) mirror-met);
             }
 
       -- the turn that closes: one component less, or two
-      pub turn-close : Turned n ws W t k W₅ (lastPlace n W k) (k - 1)
+      pub turn-close : TurnMade n ws W t k W₅ (lastPlace n W k) (k - 1)
       turn-close =
           ⊎-elim (λ (z : cl .mirrored ≡ 0). close-one z) (λ (z : cl .mirrored ≢ 0). close-two (omega arith)) (same? (cl .mirrored) 0)
 
@@ -397,8 +397,8 @@ module _ {n : ℕ} {ws W : List ℕ} {t k : ℕ} (sz : Sizes n ws W) (pk : 0 < k
       one-less = omega (arith, not-first q0 nr)
 
       -- the state before, with two last places
-      dropping-state : State n ws W₁ t (k - 2 + 2)
-      dropping-state = subst (λ (x : ℕ). State n ws W₁ t x) {x = k} {y = k - 2 + 2} (omega (arith, not-first q0 nr)) (noted-state q0)
+      dropping-state : WalkState n ws W₁ t (k - 2 + 2)
+      dropping-state = subst (λ (x : ℕ). WalkState n ws W₁ t x) {x = k} {y = k - 2 + 2} (omega (arith, not-first q0 nr)) (noted-state q0)
 
       -- the code before the last one is a code
       before-fits : (spare n W₁ (k - 2) < t) × (trail n W₁ (spare n W₁ (k - 2)) < 2 * n)
@@ -411,14 +411,14 @@ module _ {n : ℕ} {ws W : List ℕ} {t k : ℕ} (sz : Sizes n ws W) (pk : 0 < k
           omega (arith, g, noted-state q0 .rise (k - 2) (k - 1) (omega (arith, not-first q0 nr)) last-on-path)
 
       -- from a state in which the rank of the code before is low enough
-      drop-from : State n ws W₄ t (k - 2 + 2) → Beyond n W₁ W₄ → cursor n W₄ (lastCode n W₁ k) ≡ 0
-          → mark n W₄ (lastCode n W₁ k) ≡ low → mark n W₄ (trail n W₁ (spare n W₁ (k - 2))) ≤ low → State n ws W₄ t (k - 1)
+      drop-from : WalkState n ws W₄ t (k - 2 + 2) → Beyond n W₁ W₄ → cursor n W₄ (lastCode n W₁ k) ≡ 0
+          → mark n W₄ (lastCode n W₁ k) ≡ low → mark n W₄ (trail n W₁ (spare n W₁ (k - 2))) ≤ low → WalkState n ws W₄ t (k - 1)
       drop-from g hi c0 r0 r1 =
           let e1 : spare n W₄ (k - 2 + 1) ≡ lastPlace n W₁ k = rw one-less (hi .spares (k - 1)) in
           let e2 : trail n W₄ (spare n W₄ (k - 2 + 1)) ≡ lastCode n W₁ k = rw e1 (hi .trails (lastPlace n W₁ k)) in
           let e3 : spare n W₄ (k - 2) ≡ spare n W₁ (k - 2) = hi .spares (k - 2) in
           let e4 : trail n W₄ (spare n W₄ (k - 2)) ≡ trail n W₁ (spare n W₁ (k - 2)) = rw e3 (hi .trails (spare n W₁ (k - 2))) in
-          subst (λ (x : ℕ). State n ws W₄ t x) one-less
+          subst (λ (x : ℕ). WalkState n ws W₄ t x) one-less
           (dropped g (rw e2 c0) (omega (arith, e1, same-place, ap (mark n W₄) e2, r0, low-le f, nr)) (omega (arith, ap (mark n W₄) e2, ap (mark n W₄) e4, r0, r1)))
 
       -- the list of the last code is done, and its rank is the lowest met
@@ -429,12 +429,12 @@ module _ {n : ℕ} {ws W : List ℕ} {t k : ℕ} (sz : Sizes n ws W) (pk : 0 < k
       last-rank = rw same-code (nt .rank)
 
       -- the rank of the code before stays
-      turn-same : mark n W₁ b ≤ low → Turned n ws W t k W₄ t (k - 1)
+      turn-same : mark n W₁ b ≤ low → TurnMade n ws W t k W₄ t (k - 1)
       turn-same u =
           let w = lf .old u in
           rw w (record {
-            state = subst (λ (X : List ℕ). State n ws X t (k - 1)) w
-                (drop-from (subst (λ (X : List ℕ). State n ws X t (k - 2 + 2)) (sym w) dropping-state) (rw w (beyond-refl n W₁))
+            state = subst (λ (X : List ℕ). WalkState n ws X t (k - 1)) w
+                (drop-from (subst (λ (X : List ℕ). WalkState n ws X t (k - 2 + 2)) (sym w) dropping-state) (rw w (beyond-refl n W₁))
                 (ap (λ (X : List ℕ). cursor n X (lastCode n W₁ k)) w ∙ last-done)
                 (ap (λ (X : List ℕ). mark n X (lastCode n W₁ k)) w ∙ last-rank)
                 (omega (arith, ap (λ (X : List ℕ). mark n X (trail n W₁ (spare n W₁ (k - 2)))) w, ap (mark n W₁) qb)));
@@ -485,7 +485,7 @@ module _ {n : ℕ} {ws W : List ℕ} {t k : ℕ} (sz : Sizes n ws W) (pk : 0 < k
             (same? x b)
 
         -- then the turn drops the last code from the path
-        turn-fall : Turned n ws W t k W₄ t (k - 1)
+        turn-fall : TurnMade n ws W t k W₄ t (k - 1)
         turn-fall =
             record {
               state =
@@ -502,5 +502,5 @@ module _ {n : ℕ} {ws W : List ℕ} {t k : ℕ} (sz : Sizes n ws W) (pk : 0 < k
             }
 
       -- the turn that goes back up
-      pub turn-drop : Turned n ws W t k W₄ t (k - 1)
+      pub turn-drop : TurnMade n ws W t k W₄ t (k - 1)
       turn-drop = ⊎-elim (λ (u : low < mark n W₁ b). turn-fall u) (λ (u : mark n W₁ b ≤ low). turn-same u) (below-or-from low (mark n W₁ b))

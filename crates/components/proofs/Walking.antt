@@ -5,7 +5,7 @@ use mathlib.Core.Logic.{_⊎_, inl, inr, ⊎-elim, _≢_}
 use mathlib.Core.List.{List}
 use native.Mathlib.Omega.{arith}
 use lib.ListN.{length, getD}
-use Rattle.components.specs.Walk.{In, Past, Dfs}
+use Rattle.components.specs.Walk.{In, Accounted, Dfs}
 use Rattle.meaning.specs.Chains.{Reach}
 use Rattle.meaning.specs.Codes.{opposite}
 use Rattle.components.proofs.Ways.{join, here, Words, reach-lt}
@@ -152,7 +152,7 @@ module _ {N : ℕ} {ws : List ℕ} {r s d cu : ℕ → ℕ} {t k : ℕ} (h : Dfs
   -- ---- the cursor of a code of the path goes on
   module _ (i : ℕ) (li : i < k) (cu′ : ℕ → ℕ) (co : (x : ℕ) → x < N → x ≢ s (d i) → cu′ x ≡ cu x)
       (cc′ : 0 < cu′ (s (d i)) → (cu′ (s (d i)) ≤ length ws) × (getD ws (cu′ (s (d i)) - 1) 0 ≡ opposite (s (d i))))
-      (cs : (e : ℕ) → e < length ws → getD ws e 0 ≡ opposite (s (d i)) → (cu′ (s (d i)) ≡ 0) ⊎ (e + 1 < cu′ (s (d i))) → Past r s t (d i) (getD ws (opposite e) 0)) where
+      (cs : (e : ℕ) → e < length ws → getD ws e 0 ≡ opposite (s (d i)) → (cu′ (s (d i)) ≡ 0) ⊎ (e + 1 < cu′ (s (d i))) → Accounted r s t (d i) (getD ws (opposite e) 0)) where
     -- the code stands on the stack
     on-stack-too : d i < t
     on-stack-too = h .climb i li .1

@@ -29,7 +29,7 @@ pub record In (d : ℕ → ℕ) (t k j p : ℕ) : Type 0 where
   pub under : j + 1 < k → p < d (j + 1)
 
 -- a step from the code at p to z is taken into account: z was met, and where it is on the stack the rank of p is no higher than its place
-pub record Past (r s : ℕ → ℕ) (t p z : ℕ) : Type 0 where
+pub record Accounted (r s : ℕ → ℕ) (t p z : ℕ) : Type 0 where
   pub has : 0 < r z
   pub low : (q : ℕ) → q < t → s q ≡ z → r (s p) ≤ q + 1
 
@@ -64,22 +64,22 @@ pub record Dfs (N : ℕ) (ws : List ℕ) (r s d cu : ℕ → ℕ) (t k : ℕ) : 
   -- a cursor on the stack is 0 or in its list
   pub cur : (p : ℕ) → p < t → 0 < cu (s p) → (cu (s p) ≤ length ws) × (getD ws (cu (s p) - 1) 0 ≡ opposite (s p))
   -- the ends before a cursor are taken into account
-  pub seen : (p e : ℕ) → p < t → e < length ws → getD ws e 0 ≡ opposite (s p) → Passed (cu (s p)) e → Past r s t p (getD ws (opposite e) 0)
+  pub seen : (p e : ℕ) → p < t → e < length ws → getD ws e 0 ≡ opposite (s p) → Passed (cu (s p)) e → Accounted r s t p (getD ws (opposite e) 0)
   -- what is tied to a settled code is settled
   pub whole : (x y : ℕ) → x < N → N < r x → Tied ws x y → N < r y
   -- the rank of a settled code tells its lead
   pub lead : (x : ℕ) → x < N → N < r x → Lead ws x (r x - (N + 1))
 
-abbrev pub State : ℕ → List ℕ → List ℕ → ℕ → ℕ → Type 0
-State n ws W t k = Dfs (2 * n) ws (mark n W) (trail n W) (spare n W) (cursor n W) t k
+abbrev pub WalkState : ℕ → List ℕ → List ℕ → ℕ → ℕ → Type 0
+WalkState n ws W t k = Dfs (2 * n) ws (mark n W) (trail n W) (spare n W) (cursor n W) t k
 
 -- an end of the list of a was taken into account before
 abbrev pub Old : ℕ → List ℕ → ℕ → ℕ → Type 0
 Old n W a i = Passed (cursor n W a) i
 
 -- z has a rank, no lower than low
-abbrev pub Met : ℕ → List ℕ → ℕ → ℕ → Type 0
-Met n W low z = (0 < mark n W z) × (low ≤ mark n W z)
+abbrev pub Ranked : ℕ → List ℕ → ℕ → ℕ → Type 0
+Ranked n W low z = (0 < mark n W z) × (low ≤ mark n W z)
 
 -- 1 more than the code that was not met yet, or 0 where there is none
 abbrev pub orZero : Unmet → ℕ
@@ -93,7 +93,7 @@ pub record Scanned (n : ℕ) (ws W : List ℕ) (a e low hit : ℕ) : Type 0 wher
   pub why : (low ≡ mark n W a) ⊎ ((z : ℕ) × ((k : ℕ) × Step ws a k z) × (mark n W z ≡ low))
   pub cur : Cursor ws a e
   pub seen : (i : ℕ) → i < length ws → getD ws i 0 ≡ opposite a → Passed e i
-      → Old n W a i ⊎ Met n W low (getD ws (opposite i) 0) ⊎ (getD ws (opposite i) 0 + 1 ≡ hit)
+      → Old n W a i ⊎ Ranked n W low (getD ws (opposite i) 0) ⊎ (getD ws (opposite i) 0 + 1 ≡ hit)
   pub new : 0 < hit → (hit - 1 < 2 * n) × (mark n W (hit - 1) ≡ 0) × ((k : ℕ) × Step ws a k (hit - 1))
   pub end : hit ≡ 0 → e ≡ 0
 
@@ -122,16 +122,16 @@ pub record Settled (n : ℕ) (g : ℕ → ℕ) (d t v : ℕ) (W W′ : List ℕ)
   pub old : (x : ℕ) → x < 2 * n → ((p : ℕ) → d ≤ p → p < t → g p ≢ x) → mark n W′ x ≡ mark n W x
 
 -- the opposites of the codes on the stack
-abbrev pub across : ℕ → List ℕ → ℕ → ℕ
-across n W p = opposite (trail n W p)
+abbrev pub opposites : ℕ → List ℕ → ℕ → ℕ
+opposites n W p = opposite (trail n W p)
 
 -- o is 0, or 1 more than the smallest of the opposites of the codes from place d on, none of which was met yet
 pub record Lone (n d t : ℕ) (W : List ℕ) (o : ℕ) : Type 0 where
-  pub least : 0 < o → Least (across n W) d t (o - 1)
-  pub unmet : 0 < o → (p : ℕ) → d ≤ p → p < t → mark n W (across n W p) ≡ 0
+  pub least : 0 < o → Least (opposites n W) d t (o - 1)
+  pub unmet : 0 < o → (p : ℕ) → d ≤ p → p < t → mark n W (opposites n W p) ≡ 0
 
 -- the codes from place d on are settled; their opposites too, where none of them was met yet
-pub record Closed (n d t : ℕ) (W W′ : List ℕ) : Type 0 where
+pub record PartClosed (n d t : ℕ) (W W′ : List ℕ) : Type 0 where
   pub mid : List ℕ
   pub small : ℕ
   pub mirrored : ℕ
@@ -139,7 +139,7 @@ pub record Closed (n d t : ℕ) (W W′ : List ℕ) : Type 0 where
   pub settled : Settled n (trail n W) d t (settledRank n small) W mid
   pub lone : Lone n d t mid mirrored
   pub keeps : mirrored ≡ 0 → W′ ≡ mid
-  pub mirrors : 0 < mirrored → Settled n (across n mid) d t (2 * n + mirrored) mid W′
+  pub mirrors : 0 < mirrored → Settled n (opposites n mid) d t (2 * n + mirrored) mid W′
 
 -- the code b has the rank low, where that is less
 pub record Lifted (n b low : ℕ) (W W′ : List ℕ) : Type 0 where
@@ -155,17 +155,17 @@ abbrev pub stackedOn : ℕ → List ℕ → ℕ → ℕ → ℕ → List ℕ
 stackedOn n W z t k = set (set (set W (trailAt n t) z) (spareAt n k) t) (markAt n z) (t + 1)
 
 -- the measure of the walk: codes not met yet count double
-abbrev pub left : ℕ → List ℕ → ℕ → ℕ
-left n W k = 2 * (2 * n - countOf (mark n W) (2 * n)) + k
+abbrev pub turnsLeft : ℕ → List ℕ → ℕ → ℕ
+turnsLeft n W k = 2 * (2 * n - countOf (mark n W) (2 * n)) + k
 
-pub record Turned (n : ℕ) (ws W : List ℕ) (t k : ℕ) (W′ : List ℕ) (t′ k′ : ℕ) : Type 0 where
-  pub state : State n ws W′ t′ k′
+pub record TurnMade (n : ℕ) (ws W : List ℕ) (t k : ℕ) (W′ : List ℕ) (t′ k′ : ℕ) : Type 0 where
+  pub state : WalkState n ws W′ t′ k′
   pub side : Side n W W′
   pub met : (x : ℕ) → x < 2 * n → 0 < mark n W x → 0 < mark n W′ x
-  pub less : left n W′ k′ < left n W k
+  pub less : turnsLeft n W′ k′ < turnsLeft n W k
 
 pub record Searched (n : ℕ) (ws : List ℕ) (root : ℕ) (W W′ : List ℕ) : Type 0 where
-  pub state : State n ws W′ 0 0
+  pub state : WalkState n ws W′ 0 0
   pub side : Side n W W′
   pub met : (x : ℕ) → x < 2 * n → 0 < mark n W x → 0 < mark n W′ x
   pub got : 0 < mark n W′ root

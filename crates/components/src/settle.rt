@@ -10,7 +10,7 @@ use moves::layout::trail_code;
 ghost use Prim.Native.Nat.{_*_, _≤_, _<_};
 ghost use Rattle.meaning.specs.Sizes.{maxChoices};
 ghost use Rattle.moves.specs.Layout.{Tables, trail};
-ghost use Rattle.components.specs.Walk.{Stacked, Least, Settled, across, orZero, Lone, Closed};
+ghost use Rattle.components.specs.Walk.{Stacked, Least, Settled, opposites, orZero, Lone, PartClosed};
 
 // The smallest of the codes on the stack between two places.
 fn least(n: usize, work: &[u16], from: usize, top: usize) -> Code
@@ -65,7 +65,7 @@ fn lone(n: usize, work: &[u16], from: usize, top: usize) -> Unmet
 // The opposites get the rank v.
 fn mirror(n: usize, work: &mut [u16], from: usize, top: usize, v: usize)
     requires { ⌜ (from ≤ top) × (v < 65536) × Tables n (now work) × Stacked n (now work) top ⌝ }
-    ensures { λ _. ⌜ Settled n (across n (now (work .entry))) from top v (now (work .entry)) (now (work .exit)) ⌝ }
+    ensures { λ _. ⌜ Settled n (opposites n (now (work .entry))) from top v (now (work .entry)) (now (work .exit)) ⌝ }
 {
     let mut p = from;
     while p < top {
@@ -78,7 +78,7 @@ fn mirror(n: usize, work: &mut [u16], from: usize, top: usize, v: usize)
 // The codes between the two places are a component, and so are their opposites.
 pub fn close(n: usize, work: &mut [u16], from: usize, top: usize)
     requires { ⌜ (n ≤ maxChoices) × (from < top) × Tables n (now work) × Stacked n (now work) top ⌝ }
-    ensures { λ _. ⌜ Closed n from top (now (work .entry)) (now (work .exit)) ⌝ }
+    ensures { λ _. ⌜ PartClosed n from top (now (work .entry)) (now (work .exit)) ⌝ }
 {
     let l = least(n, work, from, top);
     settle(n, work, from, top, settled_rank(n, l));

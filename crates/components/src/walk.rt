@@ -16,7 +16,7 @@ ghost use Prim.Native.Nat.{ℕ, _*_, _<_};
 ghost use Rattle.moves.specs.Layout.{Sizes, mark};
 ghost use Rattle.moves.specs.Lists.{Nexts, Ready};
 ghost use Rattle.components.specs.Leads.{Leads, Side};
-ghost use Rattle.components.specs.Walk.{State, Turned, Searched};
+ghost use Rattle.components.specs.Walk.{WalkState, TurnMade, Searched};
 
 // The counts of the stack and of the path.
 struct Ends {
@@ -28,8 +28,8 @@ struct Ends {
 fn turn(n: usize, words: &[u16], work: &mut [u16], top: usize, depth: usize) -> Ends
     requires { ⌜ Sizes n (now words) (now work) ⌝ }
     requires { ⌜ Nexts n (now words) (now work) ⌝ }
-    requires { ⌜ (0 < depth) × State n (now words) (now work) top depth ⌝ }
-    ensures { λ r. ⌜ Turned n (now (words .entry)) (now (work .entry)) top depth (now (work .exit)) (r .top) (r .depth) ⌝ }
+    requires { ⌜ (0 < depth) × WalkState n (now words) (now work) top depth ⌝ }
+    ensures { λ r. ⌜ TurnMade n (now (words .entry)) (now (work .entry)) top depth (now (work .exit)) (r .top) (r .depth) ⌝ }
 {
     let place = path_of(n, work, depth - 1);
     let a = trail_code(n, work, place);
@@ -63,7 +63,7 @@ fn turn(n: usize, words: &[u16], work: &mut [u16], top: usize, depth: usize) -> 
 fn search(n: usize, words: &[u16], work: &mut [u16], root: Code)
     requires { ⌜ Sizes n (now words) (now work) ⌝ }
     requires { ⌜ Nexts n (now words) (now work) ⌝ }
-    requires { ⌜ (root .0 < 2 * n) × (mark n (now work) (root .0) ≡ 0) × State n (now words) (now work) 0 0 ⌝ }
+    requires { ⌜ (root .0 < 2 * n) × (mark n (now work) (root .0) ≡ 0) × WalkState n (now words) (now work) 0 0 ⌝ }
     ensures { λ _. ⌜ Searched n (now (words .entry)) (root .0) (now (work .entry)) (now (work .exit)) ⌝ }
 {
     let start = root.0;

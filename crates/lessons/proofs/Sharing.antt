@@ -9,7 +9,7 @@ use Rattle.meaning.specs.Codes.{opposite}
 use Rattle.moves.specs.Layout.{mark, trail, spare, Spared}
 use Rattle.lessons.specs.Learning.{Notes, Still, Learnt, OnTrail, Shaded, Noted, Plain, Shadowed, Shared}
 use Rattle.moves.specs.Lists.{Ready}
-use Rattle.moves.specs.Walks.{GoesOn, Holding, SpreadFrom, Undone}
+use Rattle.moves.specs.Walks.{OntoTrail, Holding, SpreadFrom, Undone}
 use Rattle.meaning.proofs.ChainLaws.{reach-trans, reach-turn}
 use Rattle.meaning.proofs.CodeLaws.{opposite-below}
 use Rattle.moves.proofs.Places.{ready-same}
@@ -62,7 +62,7 @@ module _ {n : ℕ} {ws : List ℕ} {src tail : ℕ} {W W₁ : List ℕ} {t : ℕ
     -- taken back, the walk has changed only spare words
     walk-back : Still n ws tail W W₃
     walk-back =
-        let onto : GoesOn n W tail W₂ t =
+        let onto : OntoTrail n W tail W₂ t =
         record {
           listed = listed-spared s (sp .listed);
           grows = sp .grows;

@@ -1,6 +1,8 @@
 // What a failed trial teaches. A rota has b or its opposite, so what both lead to is in every allowed rota: the opposite of
 // such a code leads to the code. Two walks and what they share settle whole families of later trials at once, with no
-// table beyond the spare one: what the first walk met is shaded there by 4. It pays only after a failure that walked far.
+// table beyond the spare one: what the first walk met is shaded there. It pays only after a failure that walked far.
+use crate::notes::FAILS;
+use crate::notes::SHADE;
 use meaning::Code;
 use moves::layout::narrow;
 use moves::layout::set_spare;
@@ -26,7 +28,7 @@ fn shade(n: usize, work: &mut [u16], from: usize, end: usize)
     while i < end {
         let x = trail_code(n, work, i);
         let s = spare_of(n, work, x);
-        set_spare(n, work, x, s % 4 + 4);
+        set_spare(n, work, x, s % SHADE + SHADE);
         i += 1;
     }
 }
@@ -36,12 +38,12 @@ fn flag(n: usize, work: &mut [u16], x: Code)
     requires { ⌜ (x .0 < 2 * n) × Tables n (now work) ⌝ }
     ensures { λ _. ⌜ Flagged n (now (work .entry)) (x .0) (now (work .exit)) ⌝ }
 {
-    if spare_of(n, work, x) < 4 {
+    if spare_of(n, work, x) < SHADE {
         return;
     }
     let o = x.opposite();
     let s = spare_of(n, work, o);
-    set_spare(n, work, o, s - s % 4 + 2);
+    set_spare(n, work, o, s - s % SHADE + FAILS);
 }
 
 // The same for the codes of the trail from `from` to `end`.
@@ -66,7 +68,7 @@ fn unshade(n: usize, work: &mut [u16])
     while i < 2 * n {
         let x = Code(narrow(i));
         let s = spare_of(n, work, x);
-        set_spare(n, work, x, s % 4);
+        set_spare(n, work, x, s % SHADE);
         i += 1;
     }
 }

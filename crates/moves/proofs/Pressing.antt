@@ -10,7 +10,7 @@ use Rattle.meaning.specs.Codes.{opposite}
 use Rattle.moves.specs.Layout.{mark, trail, next, Tables, Sizes, Apart}
 use Rattle.moves.specs.Lists.{Ready}
 use Rattle.moves.specs.Trials.{Pulled, Pressed}
-use Rattle.moves.specs.Walks.{GoesOn, Listed, Held, Holding, Touched}
+use Rattle.moves.specs.Walks.{OntoTrail, Listed, Held, Holding, Touched}
 use Rattle.meaning.proofs.ChainLaws.{reach-refl, reach-step, reach-trans}
 use Rattle.meaning.proofs.CodeLaws.{opposite-opposite, opposite-other}
 use Rattle.meaning.proofs.General.{same?, below-or-from}
@@ -82,7 +82,7 @@ pull-stop {n} {ws} {a} {W₀} {t₀} {W} {t} {e} {b} {x} {W′} {t′} s r p qb 
 -- a walk from src on top of what E holds in s places: the places from s to h are visited
 pub record Going (n : ℕ) (ws : List ℕ) (src : ℕ) (E : List ℕ) (s : ℕ) (W : List ℕ) (h t : ℕ) : Type 0 where
   pub within : src < 2 * n
-  pub onto : GoesOn n E s W t
+  pub onto : OntoTrail n E s W t
   pub low : s ≤ h
   pub ahead : h ≤ t
   pub under : (i : ℕ) → i < s → 0 < mark n E (trail n E i)

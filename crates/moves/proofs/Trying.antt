@@ -8,7 +8,7 @@ use Rattle.meaning.specs.Chains.{Reach}
 use Rattle.meaning.specs.Codes.{opposite}
 use Rattle.moves.specs.Layout.{mark, trail, Spared}
 use Rattle.moves.specs.Trials.{Pressed, Grew, GaveUp}
-use Rattle.moves.specs.Walks.{GoesOn, Listed, Held, Holding, Undone}
+use Rattle.moves.specs.Walks.{OntoTrail, Listed, Held, Holding, Undone}
 use Rattle.meaning.proofs.ChainLaws.{reach-trans, reach-flip, reach-turn}
 use Rattle.meaning.proofs.CodeLaws.{opposite-opposite, opposite-below}
 use Rattle.meaning.proofs.General.{same?}
@@ -47,12 +47,12 @@ module _ {n : ℕ} {W W′ : List ℕ} (same : (x : ℕ) → x < 2 * n → mark 
 
 -- a trail that goes on from another, taken back: the places are as before
 pub undone-old : {n : ℕ} {tail t : ℕ} (W : List ℕ) {W₁ W₂ : List ℕ} →
-    Listed n W tail → GoesOn n W tail W₁ t → Undone n tail W₁ W₂ → (i : ℕ) → i < tail → trail n W₂ i ≡ trail n W i
+    Listed n W tail → OntoTrail n W tail W₁ t → Undone n tail W₁ W₂ → (i : ℕ) → i < tail → trail n W₂ i ≡ trail n W i
 undone-old W r o u i l = u .trails i (omega (arith, trail-few r)) ∙ o .old i l
 
 -- and the marks are as before
 pub undone-same : {n : ℕ} {tail t : ℕ} (W : List ℕ) {W₁ W₂ : List ℕ} →
-    Listed n W tail → GoesOn n W tail W₁ t → Undone n tail W₁ W₂ → (x : ℕ) → x < 2 * n → mark n W₂ x ≡ mark n W x
+    Listed n W tail → OntoTrail n W tail W₁ t → Undone n tail W₁ W₂ → (x : ℕ) → x < 2 * n → mark n W₂ x ≡ mark n W x
 undone-same {n} {tail} {t} W {W₁} {W₂} r o u x l =
     ⊎-elim
     (λ (m : mark n W x ≡ 0). ⊎-elim

@@ -9,7 +9,7 @@ use Rattle.meaning.specs.Chains.{Step}
 use Rattle.meaning.specs.Codes.{opposite}
 use Rattle.moves.specs.Layout.{markAt, trailAt, head, mark, trail, next, Tables, Sizes, Apart}
 use Rattle.moves.specs.Lists.{Cursor, Passed, Ready}
-use Rattle.moves.specs.Walks.{GoesOn, Listed, Touched, Visited}
+use Rattle.moves.specs.Walks.{OntoTrail, Listed, Touched, Visited}
 use Rattle.meaning.proofs.General.{same?, below-or-from}
 use Rattle.moves.proofs.Cursors.{nexts-of, head-first, first-cursor, none-passed, left-of, cursor-next, cursor-passed, cursor-less}
 use Rattle.moves.proofs.Places.{apart-refl, apart-trans, mark-stored, mark-elsewhere, mark-trail, mark-apart, trail-stored, trail-elsewhere, trail-mark, trail-apart, tables-apart}
@@ -45,7 +45,7 @@ module _ (n : ℕ) (W : List ℕ) (b v t : ℕ) (lb : b < 2 * n) (lt : t < 2 * n
 -- what a touch of b does: the trail goes on, by b alone, and b has a mark
 pub record Touching (n : ℕ) (W : List ℕ) (b v t : ℕ) (W′ : List ℕ) (t′ : ℕ) : Type 0 where
   pub apart : Apart n W W′
-  pub onto : GoesOn n W t W′ t′
+  pub onto : OntoTrail n W t W′ t′
   pub new : (i : ℕ) → t ≤ i → i < t′ → (trail n W′ i ≡ b) × (mark n W′ b ≡ v)
   pub has : 0 < mark n W′ b
 
@@ -78,7 +78,7 @@ touching {n} {W} {b} {v} {t} {W′} {t′} lw r lb pv d =
 -- the invariant of the loop of `visit`: the ends that the cursor e has passed lead to marked codes
 pub record Visiting (n : ℕ) (ws : List ℕ) (a v : ℕ) (W₀ : List ℕ) (t₀ : ℕ) (W : List ℕ) (t e : ℕ) : Type 0 where
   pub apart : Apart n W₀ W
-  pub onto : GoesOn n W₀ t₀ W t
+  pub onto : OntoTrail n W₀ t₀ W t
   pub new : (i : ℕ) → t₀ ≤ i → i < t → ((k : ℕ) × Step ws a k (trail n W i)) × (mark n W (trail n W i) ≡ v)
   pub cur : Cursor ws a e
   pub seen : (k : ℕ) → k < length ws → getD ws k 0 ≡ opposite a → Passed e k → 0 < mark n W (getD ws (opposite k) 0)

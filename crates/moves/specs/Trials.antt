@@ -7,7 +7,7 @@ use Rattle.moves.specs.declared.attempt.Trial.the-variants.{Kept, Failed
 use Rattle.meaning.specs.Chains.{Step, Reach}
 use Rattle.meaning.specs.Codes.{opposite}
 use Rattle.moves.specs.Layout.{mark, trail, Apart}
-use Rattle.moves.specs.Walks.{GoesOn, Held, Holding, Touched}
+use Rattle.moves.specs.Walks.{OntoTrail, Held, Holding, Touched}
 use Rattle.meaning.proofs.Sets.{Closed, Consistent, With}
 
 -- b is touched; or nothing changes, and its opposite has a mark
@@ -18,7 +18,7 @@ Meets n W b tail W′ (Failed x t) = (x .0 ≡ b) × (t ≡ tail) × (W′ ≡ W
 -- the trail has grown, by codes to which a leads
 pub record Pulled (n : ℕ) (ws : List ℕ) (a : ℕ) (W : List ℕ) (t : ℕ) (W′ : List ℕ) (t′ : ℕ) : Type 0 where
   pub apart : Apart n W W′
-  pub onto : GoesOn n W t W′ t′
+  pub onto : OntoTrail n W t W′ t′
   pub new : (i : ℕ) → t ≤ i → i < t′ → (k : ℕ) × Step ws a k (trail n W′ i)
   pub consistent : Consistent (Held n W) → Consistent (Held n W′)
 
@@ -30,7 +30,7 @@ Pulls n ws a W t W′ (Failed b t′) = Pulled n ws a W t W′ t′ × ((k : ℕ
 -- the trail has grown, by src and codes that it reaches
 pub record Pressed (n : ℕ) (ws : List ℕ) (src tail : ℕ) (W W′ : List ℕ) (t : ℕ) : Type 0 where
   pub apart : Apart n W W′
-  pub onto : GoesOn n W tail W′ t
+  pub onto : OntoTrail n W tail W′ t
   pub only : (x : ℕ) → Held n W′ x → With ws (Held n W) src x
   pub consistent : Consistent (Held n W′)
   pub has : 0 < mark n W′ src

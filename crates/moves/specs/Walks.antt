@@ -48,8 +48,8 @@ pub record Onto (N : ℕ) (mk tr : ℕ → ℕ) (t : ℕ) (mk′ tr′ : ℕ →
   pub kept : (x : ℕ) → x < N → 0 < mk x → mk′ x ≡ mk x
 
 -- the same of two work areas
-abbrev pub GoesOn : ℕ → List ℕ → ℕ → List ℕ → ℕ → Type 0
-GoesOn n W t W′ t′ = Onto (2 * n) (mark n W) (trail n W) t (mark n W′) (trail n W′) t′
+abbrev pub OntoTrail : ℕ → List ℕ → ℕ → List ℕ → ℕ → Type 0
+OntoTrail n W t W′ t′ = Onto (2 * n) (mark n W) (trail n W) t (mark n W′) (trail n W′) t′
 
 -- the code a is visited: what it leads to has a mark, and what is new on the trail has the mark v
 pub record Visited (N : ℕ) (ws : List ℕ) (a v : ℕ) (mk tr : ℕ → ℕ) (t : ℕ) (mk′ tr′ : ℕ → ℕ) (t′ : ℕ) : Type 0 where

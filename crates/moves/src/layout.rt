@@ -1,6 +1,6 @@
 // Where each table stands in the work area: heads [0, 2n), marks [2n, 4n), trail [4n, 6n), spare [6n, 8n), nexts from 8n on.
 // They share one area because two parts of a lent slice cannot be lent at a time. No other file names an offset, so that a
-// table is added or moved here and in specs/Layout alone. Words are widened and narrowed here only.
+// table is added or moved here and in specs/Layout alone. The area's words are widened and narrowed here only.
 use meaning::Code;
 ghost use mathlib.Core.Path.{_≡_};
 ghost use Prim.Native.Nat.{_*_, _<_, _≤_};

@@ -13,23 +13,11 @@ ghost use Rattle.meaning.specs.Refusals.{numberOf, placeOf};
 ghost use Rattle.meaning.specs.Sizes.{over};
 ghost use Rattle.numbers.specs.Numbers.{outNeeds, decidedNumber, decidedValues, listedNumber, listedValues, clashedNumber, clashedValues, movedNumber, movedValues, readNumber, readValues, hostDecided, hostMoved};
 
-fn wide(x: u16) -> u64
-    ensures { λ r. ⌜ r ≡ x ⌝ }
-{
-    x as u64
-}
-
-fn wider(x: usize) -> u64
-    ensures { λ r. ⌜ r ≡ x ⌝ }
-{
-    x as u64
-}
-
 fn refused(refusal: Refusal, out: &mut [u64]) -> u32
     requires { ⌜ outNeeds ≤ length (now out) ⌝ }
     ensures { λ r. ⌜ (r ≡ numberOf refusal) × (now (out .exit) ≡ over (placeOf refusal ∷ []) (now (out .entry))) ⌝ }
 {
-    out[0] = wider(refusal.place());
+    out[0] = refusal.place() as u64;
     refusal.number()
 }
 
@@ -40,7 +28,7 @@ pub fn decided(answer: Decided, out: &mut [u64]) -> u32
     match answer {
         Decided::Possible => 0,
         Decided::Impossible(v) => {
-            out[0] = wide(v.0);
+            out[0] = v.0 as u64;
             100
         }
         Decided::Refused(refusal) => refused(refusal, out),
@@ -68,9 +56,9 @@ pub fn clashed(answer: Clashed, out: &mut [u64]) -> u32
             late_early,
             early_late,
         } => {
-            out[0] = wide(choice.0);
-            out[1] = wider(late_early);
-            out[2] = wider(early_late);
+            out[0] = choice.0 as u64;
+            out[1] = late_early as u64;
+            out[2] = early_late as u64;
             100
         }
         Clashed::Possible => 0,
@@ -96,8 +84,8 @@ pub fn read(answer: Read, out: &mut [u64]) -> u32
 {
     match answer {
         Read::Book { n, m } => {
-            out[0] = wider(n);
-            out[1] = wider(m);
+            out[0] = n as u64;
+            out[1] = m as u64;
             0
         }
         Read::Refused(refusal) => refused(refusal, out),

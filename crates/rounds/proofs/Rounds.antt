@@ -6,7 +6,7 @@ use Prim.Native.Nat.{ℕ, _+_, _*_, _<_}
 use native.Mathlib.Omega.{arith}
 use lib.ListN.{set}
 use borrow.Author.Count.{below-more}
-use Rattle.rounds.specs.Rounds.{Asked, More, Considered, Swept}
+use Rattle.rounds.specs.Rounds.{FoundOut, More, Considered, Swept}
 use Rattle.search.specs.Search.{Taught}
 use Rattle.search.specs.State.{State}
 use Rattle.meaning.specs.Chains.{Reach}
@@ -81,6 +81,6 @@ swept-none s = record { more = more-none s; all = λ x h. absurd (omega arith) }
 pub swept-after : {n : ℕ} {ws : List ℕ} {k : ℕ} {W W′ W″ : List ℕ} → More n ws W W′ 0 → Swept n ws k W′ W″ → Swept n ws k W W″
 swept-after m s = record { more = more-on m (s .more); all = s .all }
 
-pub swept-more : {n : ℕ} {ws : List ℕ} {k : ℕ} {W W′ W″ : List ℕ} → k < 2 * n → Swept n ws k W W′ → Asked n ws k W′ W″ → Swept n ws (k + 1) W W″
+pub swept-more : {n : ℕ} {ws : List ℕ} {k : ℕ} {W W′ W″ : List ℕ} → k < 2 * n → Swept n ws k W W′ → FoundOut n ws k W′ W″ → Swept n ws (k + 1) W W″
 swept-more h s a =
     record { more = more-on (s .more) (a .more); all = below-more _ _ (λ x l. a .more .keeps x (omega arith) (s .all x l)) (a .here) }

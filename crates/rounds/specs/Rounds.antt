@@ -1,4 +1,4 @@
--- What the rounds of trials keep: the notes in the spare table, 0 nothing yet, 1 possible, 2 leads to its opposite.
+-- What the rounds of trials keep: the notes in the spare table, 0 nothing yet, else `possible` or `fails`.
 use mathlib.Core.Path.{_≡_}
 use mathlib.Core.Bool.{cond}
 use mathlib.Core.List.{List}
@@ -7,6 +7,7 @@ use lib.Dec.{eqb}
 use Rattle.meaning.specs.Codes.{opposite, late, early}
 use Rattle.meaning.proofs.General.{build}
 use Rattle.moves.specs.Layout.{mark, spare}
+use Rattle.lessons.specs.Learning.{fails}
 use Rattle.search.specs.State.{Around, State}
 
 -- more is noted, and no note is lost
@@ -21,7 +22,7 @@ pub record Considered (n : ℕ) (ws : List ℕ) (c : ℕ) (W W′ : List ℕ) (t
   pub here : mark n W (opposite c) ≡ 0 → 0 < spare n W′ c
 
 -- something is noted of code c, and the set is empty again
-pub record Asked (n : ℕ) (ws : List ℕ) (c : ℕ) (W W′ : List ℕ) : Type 0 where
+pub record FoundOut (n : ℕ) (ws : List ℕ) (c : ℕ) (W W′ : List ℕ) : Type 0 where
   pub more : More n ws W W′ 0
   pub here : 0 < spare n W′ c
 
@@ -32,7 +33,7 @@ pub record Swept (n : ℕ) (ws : List ℕ) (k : ℕ) (W W′ : List ℕ) : Type 
 
 -- the byte of a choice, by the notes of its late code and its early code
 abbrev pub byteOf : ℕ → ℕ → ℕ
-byteOf late early = cond (eqb early 2) 1 (cond (eqb late 2) 0 2)
+byteOf late early = cond (eqb early fails) 1 (cond (eqb late fails) 0 2)
 
 abbrev pub forcedOf : ℕ → List ℕ → List ℕ
 forcedOf n W = build n (λ v. byteOf (spare n W (late v)) (spare n W (early v)))

@@ -1,4 +1,5 @@
 // What the notes on all codes say is forced.
+use lessons::notes::FAILS;
 use meaning::Choice;
 use meaning::Code;
 use moves::layout::narrow;
@@ -23,10 +24,10 @@ fn note_of(n: usize, work: &[u16], v: usize, value: u8) -> u16
 fn byte_of(late: u16, early: u16) -> u8
     ensures { λ r. ⌜ r ≡ byteOf late early ⌝ }
 {
-    if early == 2 {
+    if early == FAILS {
         return 1;
     }
-    if late == 2 { 0 } else { 2 }
+    if late == FAILS { 0 } else { 2 }
 }
 
 // Writes the bytes.

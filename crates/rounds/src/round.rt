@@ -1,5 +1,6 @@
-// What is noted of each code: 1 where it is in a set that was kept, so that some rota has it; 2 where it leads to its opposite. A trial is kept on top of
+// What is noted of each code: possible where it is in a set that was kept, failing where it leads to its opposite. A trial is kept on top of
 // those before it, so that one round settles many codes; what a round leaves open is asked in a round of its own.
+use lessons::notes::POSSIBLE;
 use meaning::Code;
 use moves::attempt::Trial;
 use moves::attempt::attempt;
@@ -15,7 +16,7 @@ ghost use Prim.Native.Nat.{_*_, _<_};
 ghost use Rattle.meaning.specs.Codes.{opposite};
 ghost use Rattle.moves.specs.Layout.{mark};
 ghost use Rattle.search.specs.State.{State};
-ghost use Rattle.rounds.specs.Rounds.{More, Considered, Asked, Swept};
+ghost use Rattle.rounds.specs.Rounds.{More, Considered, FoundOut, Swept};
 
 // Finds out about code c on top of the set, unless its opposite is in the set. The trail's new end.
 fn try_code(n: usize, words: &[u16], work: &mut [u16], c: Code, tail: usize) -> usize
@@ -26,7 +27,7 @@ fn try_code(n: usize, words: &[u16], work: &mut [u16], c: Code, tail: usize) -> 
     let tried = attempt(n, words, work, c, tail);
     match tried {
         Trial::Kept(t) => {
-            set_spare(n, work, c, 1);
+            set_spare(n, work, c, POSSIBLE);
             t
         }
         Trial::Failed(b, walked) => {
@@ -45,7 +46,7 @@ fn consider(n: usize, words: &[u16], work: &mut [u16], c: Code, tail: usize) -> 
         return tail;
     }
     if mark_of(n, work, c) != 0 {
-        set_spare(n, work, c, 1);
+        set_spare(n, work, c, POSSIBLE);
         return tail;
     }
     if mark_of(n, work, c.opposite()) != 0 {
@@ -72,7 +73,7 @@ fn round(n: usize, words: &[u16], work: &mut [u16], from: usize, tail: usize)
 fn ask(n: usize, words: &[u16], work: &mut [u16], c: Code)
     requires { ⌜ State n (now words) (now work) 0 ⌝ }
     requires { ⌜ c .0 < 2 * n ⌝ }
-    ensures { λ _. ⌜ Asked n (now (words .entry)) (c .0) (now (work .entry)) (now (work .exit)) ⌝ }
+    ensures { λ _. ⌜ FoundOut n (now (words .entry)) (c .0) (now (work .entry)) (now (work .exit)) ⌝ }
 {
     if spare_of(n, work, c) != 0 {
         return;

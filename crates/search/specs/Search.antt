@@ -7,17 +7,18 @@ use Rattle.meaning.specs.Chains.{Clash}
 use Rattle.meaning.proofs.Growing.{Grown}
 use Rattle.moves.specs.Layout.{mark, spare}
 use Rattle.moves.specs.Walks.{Held, Listed}
+use Rattle.lessons.specs.Learning.{fails}
 use Rattle.search.specs.State.{Around, State}
 use Rattle.search.specs.declared.settle.Settled.{Settled}
 use Rattle.search.specs.declared.first.Found.{Found}
 
--- the note of c is 2, others may have become 2, and nothing else has changed
+-- the note of c is `fails`, others may have become so, and nothing else has changed
 pub record Taught (n : ℕ) (ws : List ℕ) (c tail : ℕ) (W W′ : List ℕ) : Type 0 where
   pub around : Around n W W′
-  pub here : spare n W′ c ≡ 2
+  pub here : spare n W′ c ≡ fails
   pub state : State n ws W′ tail
   pub marks : (x : ℕ) → x < 2 * n → mark n W′ x ≡ mark n W x
-  pub spares : (x : ℕ) → x < 2 * n → (spare n W′ x ≡ spare n W x) ⊎ (spare n W′ x ≡ 2)
+  pub spares : (x : ℕ) → x < 2 * n → (spare n W′ x ≡ spare n W x) ⊎ (spare n W′ x ≡ fails)
 
 -- the choices from v to w are settled: whatever seeds B the set had grown from, it has grown further
 pub record Settles (n : ℕ) (ws : List ℕ) (v w : ℕ) (W W′ : List ℕ) (t : ℕ) : Type 0 where

@@ -9,6 +9,7 @@ use Rattle.meaning.proofs.General.{build}
 use Rattle.moves.specs.Layout.{head, mark, spare, next}
 use Rattle.moves.specs.Lists.{Ready}
 use Rattle.moves.specs.Walks.{Holding}
+use Rattle.lessons.specs.Learning.{possible, fails}
 
 -- the lists, what lies past them and the length are as they were
 pub record Around (n : ℕ) (W W′ : List ℕ) : Type 0 where
@@ -16,11 +17,11 @@ pub record Around (n : ℕ) (W W′ : List ℕ) : Type 0 where
   pub heads : (c : ℕ) → c < 2 * n → head n W′ c ≡ head n W c
   pub nexts : (e : ℕ) → next n W′ e ≡ next n W e
 
--- the notes are true: 0 nothing is known of the code, 1 it does not lead to its opposite, 2 it does
+-- the notes are true: 0 nothing is known of the code, `possible` it does not lead to its opposite, `fails` it does
 pub record Known (n : ℕ) (ws W : List ℕ) : Type 0 where
-  pub low : (x : ℕ) → x < 2 * n → spare n W x ≤ 2
-  pub frees : (x : ℕ) → x < 2 * n → spare n W x ≡ 1 → Reach ws x (opposite x) → ⊥
-  pub turns : (x : ℕ) → x < 2 * n → spare n W x ≡ 2 → Reach ws x (opposite x)
+  pub low : (x : ℕ) → x < 2 * n → spare n W x ≤ fails
+  pub frees : (x : ℕ) → x < 2 * n → spare n W x ≡ possible → Reach ws x (opposite x) → ⊥
+  pub turns : (x : ℕ) → x < 2 * n → spare n W x ≡ fails → Reach ws x (opposite x)
 
 -- the lists, a closed and consistent set with t codes, and notes that are true
 pub record State (n : ℕ) (ws W : List ℕ) (t : ℕ) : Type 0 where

@@ -1,6 +1,7 @@
 // One choice is settled: early if that can be kept, else late, else it is stuck. A failure that walked far is learnt from, so that the same
 // walk is not done again for the next choice; a short one is just turned over.
 use lessons::learn::learn;
+use lessons::notes::FAILS;
 use meaning::Choice;
 use meaning::Code;
 use moves::attempt::Trial;
@@ -38,7 +39,7 @@ pub fn teach(
     requires { ⌜ (c .0 < 2 * n) × Reach (now words) (c .0) (opposite (c .0)) × (b .0 < 2 * n) ⌝ }
     ensures { λ _. ⌜ Taught n (now (words .entry)) (c .0) tail (now (work .entry)) (now (work .exit)) ⌝ }
 {
-    set_spare(n, work, c, 2);
+    set_spare(n, work, c, FAILS);
     if walked < FAR {
         return;
     }
@@ -99,7 +100,7 @@ pub fn settle(n: usize, words: &[u16], work: &mut [u16], v: Choice, tail: usize)
     if mark_of(n, work, early) != 0 {
         return Settled::Kept(tail);
     }
-    if spare_of(n, work, early) == 2 {
+    if spare_of(n, work, early) == FAILS {
         return turn_over(n, words, work, v, tail);
     }
     try_both(n, words, work, v, tail)

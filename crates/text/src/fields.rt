@@ -47,12 +47,6 @@ pub(crate) fn put_field(out: &mut [u8], at: usize, x: usize) -> usize
     put_digits(out, next, x)
 }
 
-fn wide(word: u16) -> usize
-    ensures { λ r. ⌜ r ≡ word ⌝ }
-{
-    word as usize
-}
-
 pub(crate) fn put_fields(out: &mut [u8], at: usize, numbers: &[u16]) -> usize
     requires { ⌜ Room (spelled field (now numbers)) at (now out) ⌝ }
     ensures { λ r. ⌜ Puts (spelled field (now (numbers .entry))) (now (out .entry)) at r (now (out .exit)) ⌝ }
@@ -60,7 +54,7 @@ pub(crate) fn put_fields(out: &mut [u8], at: usize, numbers: &[u16]) -> usize
     let mut end = at;
     let mut i = 0;
     while i < numbers.len() {
-        end = put_field(out, end, wide(numbers[i]));
+        end = put_field(out, end, numbers[i] as usize);
         i += 1;
     }
     end

@@ -1,11 +1,12 @@
 -- `thwartpin_list_decide` keeps its promise: the answer of `decide` is told, where out has room.
+use native.Mathlib.Omega.{arith}
 use Rattle.thwartpin.proofs.Telling.{untold, told}
 use borrow.Author.Needs.{needs}
 use Rattle.thwartpin.proofs.thwartpin_list_decide.Statement.{statement}
 use Rattle.thwartpin.proofs.thwartpin_list_decide.Tie as tie
 
 returns : tie.Need-returns
-returns c = untold _ _ _ _ _ ((c .if1) .taken)
+returns c = untold _ _ _ _ _ (omega (arith, (c .if1) .taken))
 
 decide-requires : tie.Need-decide-requires
 decide-requires c κs = search needs

@@ -1,11 +1,12 @@
 -- `thwartpin_list_next` keeps its promise: the answer of `next` is told, where out has room.
+use native.Mathlib.Omega.{arith}
 use Rattle.thwartpin.proofs.Telling.{untold, told}
 use borrow.Author.Needs.{needs}
 use Rattle.thwartpin.proofs.thwartpin_list_next.Statement.{statement}
 use Rattle.thwartpin.proofs.thwartpin_list_next.Tie as tie
 
 returns : tie.Need-returns
-returns c = untold _ _ _ _ _ ((c .if1) .taken)
+returns c = untold _ _ _ _ _ (omega (arith, (c .if1) .taken))
 
 next-requires : tie.Need-next-requires
 next-requires c κs = search needs

@@ -1,11 +1,12 @@
 -- `thwartpin_read_book` keeps its promise: the answer of `read` is told, where out has room.
+use native.Mathlib.Omega.{arith}
 use Rattle.thwartpin.proofs.Telling.{untold, told}
 use borrow.Author.Needs.{needs}
 use Rattle.thwartpin.proofs.thwartpin_read_book.Statement.{statement}
 use Rattle.thwartpin.proofs.thwartpin_read_book.Tie as tie
 
 returns : tie.Need-returns
-returns c = untold _ _ _ _ _ ((c .if1) .taken)
+returns c = untold _ _ _ _ _ (omega (arith, (c .if1) .taken))
 
 read-requires : tie.Need-read-requires
 read-requires c κs = search needs

@@ -1,14 +1,12 @@
 -- `first_over` meets its contract: every word that was passed is below the limit.
-use Rattle.checks.proofs.refuse.first_over.Statement.{statement}
-use Rattle.checks.proofs.refuse.first_over.Tie as tie
 use mathlib.Core.Path.{sym}
 use Prim.Native.Nat.{ℕ, _-_, _≤_, _<_}
 use native.Mathlib.Omega.{arith}
-use borrow.Author.Needs.{needs}
 use borrow.Author.Count.{below-more}
-use denote.Ref.{now}
 use lib.ListN.{length, getD}
 use Rattle.meaning.proofs.RefusalLaws.{first-over}
+use Rattle.checks.proofs.refuse.first_over.Statement.{statement}
+use Rattle.checks.proofs.refuse.first_over.Tie as tie
 
 abbrev Inv-loop : tie.InvT-loop
 Inv-loop words limit i₀ i = (i ≤ length words) × ((j : ℕ) → j < i → getD words j 0 < limit)
@@ -19,17 +17,17 @@ abbrev μ-loop : tie.MeasureT-loop
 loop-holds : tie.Need-loop-holds Inv-loop μ-loop
 loop-holds c = (omega arith, λ j h. absurd (omega arith))
 
-mul-wide : tie.Need-mul-wide Inv-loop μ-loop
-mul-wide c = omega arith
+mul-if1 : tie.Need-mul-if1 Inv-loop μ-loop
+mul-if1 c = omega arith
 
-shared-slice-read-wide : tie.Need-shared-slice-read-wide Inv-loop μ-loop
-shared-slice-read-wide c = omega arith
+shared-slice-read-if1 : tie.Need-shared-slice-read-if1 Inv-loop μ-loop
+shared-slice-read-if1 c = omega arith
 
-wide-requires : tie.Need-wide-requires Inv-loop μ-loop
-wide-requires c κs = search needs
+cast-if1 : tie.Need-cast-if1 Inv-loop μ-loop
+cast-if1 c = omega (arith, ((c .shared-slice-known)) .given (((c .before .before .loop)) .i))
 
 returns : tie.Need-returns Inv-loop μ-loop
-returns c = sym (first-over ((c .before .before .before .before .before .before .args) .limit) ((c .before .before .before .before .before .before .args) .words .now) ((c .before .before .before .before .loop) .i) ((c .before .before .before .before .loop) .inv .0) ((c .before .before .before .before .loop) .inv .1) (λ h. omega (arith, (c .before .wide) .ensures)))
+returns c = sym (first-over (((c .before .before .before .before .args)) .limit) (((c .before .before .before .before .args)) .words .now) (((c .before .before .before .loop)) .i) (((c .before .before .before .loop)) .inv .0) (((c .before .before .before .loop)) .inv .1) (λ h. omega arith))
 
 add-i : tie.Need-add-i Inv-loop μ-loop
 add-i c = omega arith
@@ -38,10 +36,10 @@ loop-less : tie.Need-loop-less Inv-loop μ-loop
 loop-less c = omega arith
 
 loop-again : tie.Need-loop-again Inv-loop μ-loop
-loop-again c = (omega arith, below-more _ _ ((c .before .before .before .before .loop) .inv .1) (omega (arith, (c .before .wide) .ensures)))
+loop-again c = (omega arith, below-more _ _ (((c .before .before .before .loop)) .inv .1) (omega arith))
 
 returns-2 : tie.Need-returns-2 Inv-loop μ-loop
-returns-2 c = sym (first-over ((c .before .before .before .args) .limit) ((c .before .before .before .args) .words .now) ((c .before .loop) .i) ((c .before .loop) .inv .0) ((c .before .loop) .inv .1) (λ h. absurd (omega arith)))
+returns-2 c = sym (first-over (((c .before .before .args)) .limit) (((c .before .before .args)) .words .now) (((c .before .loop)) .i) (((c .before .loop)) .inv .0) (((c .before .loop)) .inv .1) (λ h. absurd (omega arith)))
 
 pub first-over-spec : {M : Type 1} → statement M
 first-over-spec =
@@ -50,9 +48,9 @@ first-over-spec =
     Inv-loop
     μ-loop
     loop-holds
-    mul-wide
-    shared-slice-read-wide
-    wide-requires
+    mul-if1
+    shared-slice-read-if1
+    cast-if1
     returns
     add-i
     loop-less

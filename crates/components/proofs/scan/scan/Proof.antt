@@ -8,7 +8,6 @@ use denote.Ref.{now}
 use lib.ListN.{getD}
 use Rattle.components.proofs.scan.scan.Statement.{statement}
 use Rattle.components.proofs.scan.scan.Tie as tie
-use Rattle.components.specs.Walk.{left}
 use Rattle.meaning.specs.Codes.{opposite}
 use Rattle.components.proofs.Looking.{Scanning, scan-start, scan-turn, scan-hit, scan-end}
 use Rattle.moves.proofs.Cursors.{left-of, cursor-less, other-code}

@@ -7,7 +7,7 @@ use borrow.Author.Needs.{needs}
 use denote.Ref.{now}
 use Rattle.components.proofs.settle.lone.Statement.{statement}
 use Rattle.components.proofs.settle.lone.Tie as tie
-use Rattle.components.specs.Walk.{left, across}
+use Rattle.components.specs.Walk.{opposites}
 use Rattle.meaning.specs.Codes.{opposite}
 use Rattle.moves.specs.Layout.{mark, trail}
 use Rattle.components.proofs.Looking.{Loning, lone-more, lone-done}
@@ -20,7 +20,7 @@ Inv-loop n work from top l₀ p₀ l p = Loning n from top work l p
 abbrev μ-loop : tie.MeasureT-loop
 μ-loop n work from top l₀ p₀ l p = top - p
 
-same : (c : tie.After-opposite2 Inv-loop μ-loop) → (c .opposite2) .result .0 ≡ across ((c .before .before .before .before .before .before .before .args) .n) (now ((c .before .before .before .before .before .before .before .args) .work)) ((c .before .before .before .loop) .p)
+same : (c : tie.After-opposite2 Inv-loop μ-loop) → (c .opposite2) .result .0 ≡ opposites ((c .before .before .before .before .before .before .before .args) .n) (now ((c .before .before .before .before .before .before .before .args) .work)) ((c .before .before .before .loop) .p)
 same c =
     (c .opposite2) .ensures ∙ ap opposite ((c .before .trail-code2) .ensures)
 
@@ -59,7 +59,7 @@ loop-less c = omega arith
 
 loop-again : tie.Need-loop-again Inv-loop μ-loop
 loop-again c = let q = same (c .before .before .before .before) in
-    let z : mark ((c .before .before .before .before .before .before .before .before .before .before .before .args) .n) (now ((c .before .before .before .before .before .before .before .before .before .before .before .args) .work)) (across ((c .before .before .before .before .before .before .before .before .before .before .before .args) .n) (now ((c .before .before .before .before .before .before .before .before .before .before .before .args) .work)) ((c .before .before .before .before .before .before .before .loop) .p)) ≡ 0 =
+    let z : mark ((c .before .before .before .before .before .before .before .before .before .before .before .args) .n) (now ((c .before .before .before .before .before .before .before .before .before .before .before .args) .work)) (opposites ((c .before .before .before .before .before .before .before .before .before .before .before .args) .n) (now ((c .before .before .before .before .before .before .before .before .before .before .before .args) .work)) ((c .before .before .before .before .before .before .before .loop) .p)) ≡ 0 =
     sym ((c .before .before .before .mark-of) .ensures ∙ ap (mark ((c .before .before .before .before .before .before .before .before .before .before .before .args) .n) (now ((c .before .before .before .before .before .before .before .before .before .before .before .args) .work))) q) ∙ (c .before .before .if1) .left in
     ⊎-elim
     (λ w. lone-more ((c .before .before .before .before .before .before .loop-test) .taken) ((c .before .before .before .before .before .before .before .loop) .inv) z (omega arith) (omega arith) (inr (omega arith)))

@@ -6,19 +6,19 @@ use borrow.Author.Needs.{needs}
 use denote.Ref.{now}
 use Rattle.components.proofs.settle.mirror.Statement.{statement}
 use Rattle.components.proofs.settle.mirror.Tie as tie
-use Rattle.components.specs.Walk.{Settled, across}
+use Rattle.components.specs.Walk.{Settled, opposites}
 use Rattle.meaning.specs.Codes.{opposite}
 use Rattle.moves.specs.Layout.{trail}
 use Rattle.components.proofs.Looking.{settle-none, settle-more}
 use Rattle.meaning.proofs.CodeLaws.{opposite-below}
 
 abbrev Inv-loop : tie.InvT-loop
-Inv-loop n work₀ from top v p₀ work p = (from ≤ p) × (p ≤ top) × Settled n (across n work₀) from p v work₀ work
+Inv-loop n work₀ from top v p₀ work p = (from ≤ p) × (p ≤ top) × Settled n (opposites n work₀) from p v work₀ work
 
 abbrev μ-loop : tie.MeasureT-loop
 μ-loop n work₀ from top v p₀ work p = top - p
 
-same : (c : tie.After-opposite Inv-loop μ-loop) → (c .opposite) .result .0 ≡ across ((c .before .before .before .before .before .before .args) .n) (now ((c .before .before .before .before .before .before .args) .work)) ((c .before .before .before .before .loop) .p)
+same : (c : tie.After-opposite Inv-loop μ-loop) → (c .opposite) .result .0 ≡ opposites ((c .before .before .before .before .before .before .args) .n) (now ((c .before .before .before .before .before .before .args) .work)) ((c .before .before .before .before .loop) .p)
 same c =
     (c .opposite) .ensures ∙ ap opposite ((c .before .trail-code) .ensures ∙ (c .before .before .before .before .loop) .inv .2 .beyond .trails ((c .before .before .before .before .loop) .p))
 

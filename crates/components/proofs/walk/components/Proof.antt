@@ -5,7 +5,6 @@ use mathlib.Core.Logic.{⊎-elim}
 use native.Mathlib.Omega.{arith}
 use Rattle.components.proofs.walk.components.Statement.{statement}
 use Rattle.components.proofs.walk.components.Tie as tie
-use Rattle.components.specs.Walk.{left}
 use Rattle.moves.specs.Layout.{mark}
 use Rattle.components.proofs.Answers.{begin}
 use Rattle.components.proofs.Sweeping.{side-refl, sizes-side, nexts-side, Sweeping, sweep-skip, sweep-turn, sweep-done}

@@ -5,7 +5,7 @@ use denote.Ref.{now}
 use Rattle.components.proofs.walk.search.Statement.{statement}
 use Rattle.components.proofs.walk.search.Tie as tie
 use Rattle.components.specs.Leads.{Side}
-use Rattle.components.specs.Walk.{left, State}
+use Rattle.components.specs.Walk.{turnsLeft, WalkState}
 use Rattle.moves.specs.Layout.{mark}
 use Rattle.components.proofs.Storing.{pushed-by}
 use Rattle.components.proofs.Sweeping.{side-refl, side-trans, sizes-side, nexts-side, Searching, search-push, search-turn, search-done}
@@ -16,9 +16,9 @@ abbrev Inv-loop : tie.InvT-loop
 Inv-loop n words work₀ start top₀ depth₀ work top depth = Searching n words start work₀ work top depth
 
 abbrev μ-loop : tie.MeasureT-loop
-μ-loop n words work₀ start top₀ depth₀ work top depth = left n work depth
+μ-loop n words work₀ start top₀ depth₀ work top depth = turnsLeft n work depth
 
-begun : (c : tie.After-push Inv-loop μ-loop) → State ((c .before .before .before .before .args) .n) (now ((c .before .before .before .before .args) .words)) ((c .push) .last .1 .0) 1 1 × Side ((c .before .before .before .before .args) .n) (now ((c .before .before .before .before .args) .work)) ((c .push) .last .1 .0) × ((x : ℕ) → x < 2 * (c .before .before .before .before .args) .n → 0 < mark ((c .before .before .before .before .args) .n) (now ((c .before .before .before .before .args) .work)) x → 0 < mark ((c .before .before .before .before .args) .n) ((c .push) .last .1 .0) x) × (0 < mark ((c .before .before .before .before .args) .n) ((c .push) .last .1 .0) ((c .before .before .before .before .args) .root .0))
+begun : (c : tie.After-push Inv-loop μ-loop) → WalkState ((c .before .before .before .before .args) .n) (now ((c .before .before .before .before .args) .words)) ((c .push) .last .1 .0) 1 1 × Side ((c .before .before .before .before .args) .n) (now ((c .before .before .before .before .args) .work)) ((c .push) .last .1 .0) × ((x : ℕ) → x < 2 * (c .before .before .before .before .args) .n → 0 < mark ((c .before .before .before .before .args) .n) (now ((c .before .before .before .before .args) .work)) x → 0 < mark ((c .before .before .before .before .args) .n) ((c .push) .last .1 .0) x) × (0 < mark ((c .before .before .before .before .args) .n) ((c .push) .last .1 .0) ((c .before .before .before .before .args) .root .0))
 begun c =
     search-push ((c .before .before .before .before .pre) .0) ((c .before .before .before .before .pre) .1 .1 .2) ((c .before .before .before .before .pre) .1 .1 .0) ((c .before .before .before .before .pre) .1 .1 .1)
     (pushed-by ((c .before .before .before .before .pre) .1 .1 .0) (omega (arith, (c .before .before .before .before .pre) .1 .1 .0)) (omega (arith, (c .before .before .before .before .pre) .1 .1 .0)) (tables ((c .before .before .before .before .pre) .0)) ((c .push) .ensures))

@@ -11,20 +11,14 @@ use Rattle.numbers.proofs.tell.clashed.Tie as tie
 enum-known-answer : tie.Need-enum-known-answer
 enum-known-answer c = search needs
 
-wide-requires : tie.Need-wide-requires
-wide-requires c κs = search needs
+cast-out : tie.Need-cast-out
+cast-out c = search needs
 
 slice-write-out : tie.Need-slice-write-out
 slice-write-out c = search needs
 
-wider-requires : tie.Need-wider-requires
-wider-requires c κs = search needs
-
 slice-write-out-2 : tie.Need-slice-write-out-2
-slice-write-out-2 c = simp length-set (omega (arith, (c .before .before .before .before .before .before .pre)))
-
-wider-requires-2 : tie.Need-wider-requires-2
-wider-requires-2 c κs = search needs
+slice-write-out-2 c = simp length-set (omega (arith, (c .before .before .before .before .before .pre)))
 
 slice-write-out-3 : tie.Need-slice-write-out-3
 slice-write-out-3 c = search needs
@@ -42,7 +36,7 @@ same-length : tie.Need-same-length
 same-length c = search needs
 
 returns : tie.Need-returns
-returns c = rw ((c .before .before .before .before .answer) .given .1) (refl, over-three (now ((c .before .before .before .before .before .before .before .args) .out)) (c .before .before .before .before .before .before .before .pre) ((c .before .before .wide) .ensures) ((c .before .wider) .ensures) ((c .wider2) .ensures))
+returns c = rw (((c .before .before .answer)) .given .1) (refl, over-three (now (((c .before .before .before .before .before .args)) .out)) ((c .before .before .before .before .before .pre)))
 
 returns-2 : tie.Need-returns-2
 returns-2 c = search needs
@@ -51,18 +45,16 @@ same-length-2 : tie.Need-same-length-2
 same-length-2 c = search needs
 
 returns-3 : tie.Need-returns-3
-returns-3 c = rw ((c .before .before .before .before .before .answer2) .given .1) ((c .before .before .refused) .ensures)
+returns-3 c = rw (((c .before .before .before .before .before .answer2)) .given .1) (((c .before .before .refused)) .ensures)
 
 pub clashed-spec : {M : Type 1} → statement M
 clashed-spec =
     tie.close
     (tie.spec
     enum-known-answer
-    wide-requires
+    cast-out
     slice-write-out
-    wider-requires
     slice-write-out-2
-    wider-requires-2
     slice-write-out-3
     enum-told
     enum-known-answer-2

@@ -12,8 +12,8 @@ enum-told c = search needs
 enum-known-answer : tie.Need-enum-known-answer
 enum-known-answer c = search needs
 
-wide-requires : tie.Need-wide-requires
-wide-requires c κs = search needs
+cast-out : tie.Need-cast-out
+cast-out c = search needs
 
 slice-write-out : tie.Need-slice-write-out
 slice-write-out c = search needs
@@ -31,13 +31,13 @@ same-length : tie.Need-same-length
 same-length c = search needs
 
 returns-2 : tie.Need-returns-2
-returns-2 c = rw ((c .before .before .answer) .given .1) (refl, over-one (now ((c .before .before .before .before .before .args) .out)) (c .before .before .before .before .before .pre) ((c .wide) .ensures))
+returns-2 c = rw (((c .before .before .answer)) .given .1) (refl, over-one (now (((c .before .before .before .before .before .args)) .out)) ((c .before .before .before .before .before .pre)) refl)
 
 same-length-2 : tie.Need-same-length-2
 same-length-2 c = search needs
 
 returns-3 : tie.Need-returns-3
-returns-3 c = rw ((c .before .before .before .before .before .answer2) .given .1) ((c .before .before .refused) .ensures)
+returns-3 c = rw (((c .before .before .before .before .before .answer2)) .given .1) (((c .before .before .refused)) .ensures)
 
 pub decided-spec : {M : Type 1} → statement M
 decided-spec =
@@ -45,7 +45,7 @@ decided-spec =
     (tie.spec
     enum-told
     enum-known-answer
-    wide-requires
+    cast-out
     slice-write-out
     enum-known-answer-2
     refused-requires

@@ -11,17 +11,11 @@ use Rattle.numbers.proofs.tell.read.Tie as tie
 enum-known-answer : tie.Need-enum-known-answer
 enum-known-answer c = search needs
 
-wider-requires : tie.Need-wider-requires
-wider-requires c κs = search needs
-
 slice-write-out : tie.Need-slice-write-out
 slice-write-out c = search needs
 
-wider-requires-2 : tie.Need-wider-requires-2
-wider-requires-2 c κs = search needs
-
 slice-write-out-2 : tie.Need-slice-write-out-2
-slice-write-out-2 c = simp length-set (omega (arith, (c .before .before .before .before .before .before .pre)))
+slice-write-out-2 c = simp length-set (omega (arith, (c .before .before .before .before .pre)))
 
 enum-known-answer-2 : tie.Need-enum-known-answer-2
 enum-known-answer-2 c = search needs
@@ -33,22 +27,20 @@ same-length : tie.Need-same-length
 same-length c = search needs
 
 returns : tie.Need-returns
-returns c = rw ((c .before .before .before .answer) .given .1) (refl, over-two (now ((c .before .before .before .before .before .before .args) .out)) (c .before .before .before .before .before .before .pre) ((c .before .wider) .ensures) ((c .wider2) .ensures))
+returns c = rw (((c .before .answer)) .given .1) (refl, over-two (now (((c .before .before .before .before .args)) .out)) ((c .before .before .before .before .pre)))
 
 same-length-2 : tie.Need-same-length-2
 same-length-2 c = search needs
 
 returns-2 : tie.Need-returns-2
-returns-2 c = rw ((c .before .before .before .before .before .answer2) .given .1) ((c .before .before .refused) .ensures)
+returns-2 c = rw (((c .before .before .before .before .before .answer2)) .given .1) (((c .before .before .refused)) .ensures)
 
 pub read-spec : {M : Type 1} → statement M
 read-spec =
     tie.close
     (tie.spec
     enum-known-answer
-    wider-requires
     slice-write-out
-    wider-requires-2
     slice-write-out-2
     enum-known-answer-2
     refused-requires

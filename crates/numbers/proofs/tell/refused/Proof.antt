@@ -1,5 +1,4 @@
 -- A refusal's place stands in out, and its number is answered.
-use mathlib.Core.Path.{_∙_}
 use denote.Ref.{now}
 use Rattle.numbers.proofs.Storing.{over-one}
 use borrow.Author.Needs.{needs}
@@ -8,9 +7,6 @@ use Rattle.numbers.proofs.tell.refused.Tie as tie
 
 place-requires : tie.Need-place-requires
 place-requires c κs = search needs
-
-wider-requires : tie.Need-wider-requires
-wider-requires c κs = search needs
 
 slice-write-out : tie.Need-slice-write-out
 slice-write-out c = search needs
@@ -22,9 +18,8 @@ same-length : tie.Need-same-length
 same-length c = search needs
 
 returns : tie.Need-returns
-returns c = ((c .number) .ensures, over-one (now ((c .before .before .before .before .args) .out)) (c .before .before .before .before .pre) ((c .before .wider) .ensures ∙ (c .before .before .place) .ensures))
+returns c = (((c .number)) .ensures, over-one (now (((c .before .before .before .args)) .out)) ((c .before .before .before .pre)) (((c .before .place)) .ensures))
 
 pub refused-spec : {M : Type 1} → statement M
 refused-spec =
-    tie.close
-    (tie.spec place-requires wider-requires slice-write-out number-requires same-length returns)
+    tie.close (tie.spec place-requires slice-write-out number-requires same-length returns)

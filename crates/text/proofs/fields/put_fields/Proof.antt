@@ -1,6 +1,5 @@
 -- `put_fields` meets its contract. The invariant: the first i numbers are put.
 use Prim.Native.Nat.{_-_, _≤_}
-use borrow.Author.Needs.{needs}
 use native.Mathlib.Omega.{arith}
 use denote.Ref.{now}
 use lib.ListN.{length, take}
@@ -18,19 +17,19 @@ abbrev μ-loop : tie.MeasureT-loop
 μ-loop out₀ at numbers end₀ i₀ out end i = length numbers - i
 
 loop-holds : tie.Need-loop-holds Inv-loop μ-loop
-loop-holds c = (omega arith, puts-none (omega (arith, (c .before .before .pre) .fits)))
+loop-holds c = (omega arith, puts-none (omega (arith, ((c .before .before .pre)) .fits)))
 
-mul-wide : tie.Need-mul-wide Inv-loop μ-loop
-mul-wide c = omega arith
+mul-put-field : tie.Need-mul-put-field Inv-loop μ-loop
+mul-put-field c = omega arith
 
-shared-slice-read-wide : tie.Need-shared-slice-read-wide Inv-loop μ-loop
-shared-slice-read-wide c = omega arith
+shared-slice-read-put-field : tie.Need-shared-slice-read-put-field Inv-loop μ-loop
+shared-slice-read-put-field c = omega arith
 
-wide-requires : tie.Need-wide-requires Inv-loop μ-loop
-wide-requires c κs = search needs
+cast-put-field : tie.Need-cast-put-field Inv-loop μ-loop
+cast-put-field c = omega (arith, ((c .before .before .before .before .shared-slice-known)) .given (((c .before .before .before .loop)) .i))
 
 put-field-requires : tie.Need-put-field-requires Inv-loop μ-loop
-put-field-requires c κs = rw ((c .wide) .ensures) (turn-room field (now ((c .before .before .before .before .before .before .before .args) .numbers)) ((c .before .before .before .before .loop) .i) ((c .before .before .before .before .loop) .inv .1) ((c .before .before .before .loop-test) .taken) ((c .before .before .before .before .before .before .before .pre)))
+put-field-requires c κs = turn-room field (now (((c .before .before .before .before .before .before .args)) .numbers)) (((c .before .before .before .loop)) .i) (((c .before .before .before .loop)) .inv .1) (((c .before .before .loop-test)) .taken) ((c .before .before .before .before .before .before .pre))
 
 add-i : tie.Need-add-i Inv-loop μ-loop
 add-i c = omega arith
@@ -39,13 +38,13 @@ loop-less : tie.Need-loop-less Inv-loop μ-loop
 loop-less c = omega arith
 
 loop-again : tie.Need-loop-again Inv-loop μ-loop
-loop-again c = (omega arith, turn-put field (now ((c .before .before .before .before .before .before .before .before .before .before .args) .numbers)) ((c .before .before .before .before .before .before .before .loop) .i) ((c .before .before .before .before .before .before .before .loop) .inv .1) ((c .before .before .before .before .before .before .loop-test) .taken) (rw ((c .before .before .before .wide) .ensures) at ((c .before .before .put-field) .ensures)))
+loop-again c = (omega arith, turn-put field (now (((c .before .before .before .before .before .before .before .before .before .args)) .numbers)) (((c .before .before .before .before .before .before .loop)) .i) (((c .before .before .before .before .before .before .loop)) .inv .1) (((c .before .before .before .before .before .loop-test)) .taken) (((c .before .before .put-field)) .ensures))
 
 same-length : tie.Need-same-length Inv-loop μ-loop
-same-length c = puts-long ((c .before .loop) .inv .1)
+same-length c = puts-long (((c .before .loop)) .inv .1)
 
 returns : tie.Need-returns Inv-loop μ-loop
-returns c = turns-done field (now ((c .before .before .before .before .args) .numbers)) ((c .before .loop) .i) ((c .before .loop) .inv .1) ((c .loop-test) .left)
+returns c = turns-done field (now (((c .before .before .before .before .args)) .numbers)) (((c .before .loop)) .i) (((c .before .loop)) .inv .1) (((c .loop-test)) .left)
 
 pub put-fields-spec : {M : Type 1} → statement M
 put-fields-spec =
@@ -54,9 +53,9 @@ put-fields-spec =
     Inv-loop
     μ-loop
     loop-holds
-    mul-wide
-    shared-slice-read-wide
-    wide-requires
+    mul-put-field
+    shared-slice-read-put-field
+    cast-put-field
     put-field-requires
     add-i
     loop-less
