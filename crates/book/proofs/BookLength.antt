@@ -12,6 +12,7 @@ use Rattle.book.proofs.NumberLaws.{either}
 number-short : (x : ℕ) → length (numberBytes x) ≤ 2
 number-short x = either (λ (l : List ℕ). length l ≤ 2) (ltb x 128) _ _ (omega arith) (omega arith)
 
+-- and so many numbers at most twice as many
 numbers-short : (xs : List ℕ) → length (numbersBytes xs) ≤ 2 * length xs
 numbers-short [] = omega arith
 numbers-short (x ∷ xs) = omega (arith, length-append (numberBytes x) (numbersBytes xs), number-short x, numbers-short xs)

@@ -21,6 +21,7 @@ settledRank n l = 2 * n + 1 + l
 abbrev pub leadOf : ℕ → List ℕ → ℕ → ℕ
 leadOf n W x = mark n W x - (2 * n + 1)
 
+-- every code is settled
 abbrev pub AllSettled : ℕ → List ℕ → Type 0
 AllSettled n W = (x : ℕ) → x < 2 * n → 2 * n < mark n W x
 

@@ -70,6 +70,7 @@ pub record Dfs (N : ℕ) (ws : List ℕ) (r s d cu : ℕ → ℕ) (t k : ℕ) : 
   -- the rank of a settled code tells its lead
   pub lead : (x : ℕ) → x < N → N < r x → Lead ws x (r x - (N + 1))
 
+-- the same, as it stands in the work area
 abbrev pub WalkState : ℕ → List ℕ → List ℕ → ℕ → ℕ → Type 0
 WalkState n ws W t k = Dfs (2 * n) ws (mark n W) (trail n W) (spare n W) (cursor n W) t k
 
@@ -158,12 +159,14 @@ stackedOn n W z t k = set (set (set W (trailAt n t) z) (spareAt n k) t) (markAt 
 abbrev pub turnsLeft : ℕ → List ℕ → ℕ → ℕ
 turnsLeft n W k = 2 * (2 * n - countOf (mark n W) (2 * n)) + k
 
+-- a turn of the walk: the state again, no code forgotten, and fewer turns left
 pub record TurnMade (n : ℕ) (ws W : List ℕ) (t k : ℕ) (W′ : List ℕ) (t′ k′ : ℕ) : Type 0 where
   pub state : WalkState n ws W′ t′ k′
   pub side : Side n W W′
   pub met : (x : ℕ) → x < 2 * n → 0 < mark n W x → 0 < mark n W′ x
   pub less : turnsLeft n W′ k′ < turnsLeft n W k
 
+-- a walk from root to its end: the stack is empty, and root was met
 pub record Searched (n : ℕ) (ws : List ℕ) (root : ℕ) (W W′ : List ℕ) : Type 0 where
   pub state : WalkState n ws W′ 0 0
   pub side : Side n W W′

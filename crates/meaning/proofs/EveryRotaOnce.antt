@@ -12,7 +12,6 @@ use Rattle.meaning.specs.Order.{Before}
 use Rattle.meaning.specs.Promises.{Answered, After, Decides, Moves}
 use Rattle.meaning.specs.Refusals.{Due, none, refused, listDue, nextDue}
 use Rattle.meaning.specs.Rotas.{Allowed, Possible, First, Next, Ended}
-use Rattle.meaning.specs.Rules.{right}
 use Rattle.meaning.specs.Runs.{Follow, InOrder, GoesOn, RunOf, Run, OneOf, Ascending, EveryRota}
 use Rattle.meaning.specs.Sizes.{rotaNeeds}
 use Rattle.meaning.proofs.RefusalLaws.{not-refused}

@@ -15,12 +15,10 @@ use Rattle.meaning.specs.Codes.{late, early}
 use Rattle.meaning.specs.Promises.{After, Keeps, decidedRefusal, DecideSays, Decides, listedRefusal, ListedSays, Forces, TiesUp, clashedRefusal, BothChains, ClashSays, Clashes, movedRefusal, NextSays, Moves}
 use Rattle.meaning.specs.Refusals.{Due, none, refused, listDue, nextDue}
 use Rattle.meaning.specs.Rotas.{Allowed, Possible, Impossible, Ended, Forced}
-use Rattle.meaning.specs.Rules.{right}
 use Rattle.meaning.specs.Sizes.{rotaNeeds, chainsNeed, tiesNeed, over}
 use Rattle.meaning.proofs.ChainLaws.{clash-impossible}
 use Rattle.meaning.proofs.RefusalLaws.{named, due-named}
 use Rattle.meaning.proofs.RefusalLaws.{not-refused}
-use Rattle.meaning.proofs.TwoSat.{lowest}
 use Rattle.meaning.proofs.Unique.{first-unique, next-unique, next-not-ended, forced-unique, shortest-unique, lowest-unique, tie-unique}
 
 -- an answer and the two areas after the call

@@ -12,7 +12,6 @@ use Rattle.meaning.specs.Rotas.{Allowed, First, Next, Ended, Forced}
 use Rattle.meaning.proofs.ChainLaws.{clash-impossible}
 use Rattle.meaning.proofs.General.{compared}
 use Rattle.meaning.proofs.OrderLaws.{ordered}
-use Rattle.meaning.proofs.TwoSat.{lowest}
 
 -- of two lists of one length, of which neither comes before the other
 pub same-of-neither : (r s : List ℕ) → length r ≡ length s → (Before r s → ⊥) → (Before s r → ⊥) → r ≡ s

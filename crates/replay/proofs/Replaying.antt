@@ -119,6 +119,7 @@ pub record Replaying (n : ℕ) (ws r W₀ W : List ℕ) (i t : ℕ) : Type 0 whe
   pub stands : Stands n ws (Past r i) W t
   pub levels : Levels n ws r i W t
 
+-- at the start nothing is replayed
 pub replay-start : {n : ℕ} {ws r W : List ℕ} → ((x : ℕ) → x < 2 * n → mark n W x ≡ 0) → Replaying n ws r W W 0 0
 replay-start {n} {ws} {r} {W} z =
     record {
@@ -230,6 +231,7 @@ module _ {n : ℕ} {ws r W₀ W W₁ : List ℕ} {i t x v : ℕ} (s : Ready n ws
         none = barred-none rota stored-stands (rw ec at bad);
       }
 
+-- a rota that was followed to its end
 pub replay-done : {n : ℕ} {ws r W₀ W : List ℕ} {i t : ℕ} → n ≤ i → Replaying n ws r W₀ W i t → Replayed n ws r W₀ W n t
 replay-done {n} {ws} {r} {W₀} {W} {i} {t} l h =
     let e : i ≡ n = omega (arith, h .high) in

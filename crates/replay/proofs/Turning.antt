@@ -44,6 +44,7 @@ forgot-more {n} {k} {x} {W} {W′} {W″} fits l f ex e =
           (same? y k));
     }
 
+-- the lists stay
 pub forgot-around : {n k : ℕ} {W W′ : List ℕ} → Forgot n k W W′ → Around n W W′
 forgot-around f = record { long = f .spared .long; heads = f .spared .heads; nexts = f .spared .nexts }
 
@@ -79,6 +80,7 @@ module _ {n : ℕ} {ws W₀ W W₁ : List ℕ} (r : Ready n ws W₀) (a : Around
 abbrev seeds : ℕ → List ℕ → ℕ → ℕ
 seeds n W d = min (mark n W d) (2 * n - d)
 
+-- a code of the set is a seed, and a seed is of the set
 seeded : {n : ℕ} {W : List ℕ} (d : ℕ) → Held n W d → 0 < seeds n W d
 seeded d h = omega (arith, h .isCode, h .isMarked)
 

@@ -46,6 +46,7 @@ pub record Levels (n : ℕ) (ws r : List ℕ) (top : ℕ) (W : List ℕ) (t : �
 abbrev pub NoneFrom : ℕ → List ℕ → List ℕ → ℕ → Type 0
 NoneFrom n ws r p = (i : ℕ) → p ≤ i → NoneAt n ws r i
 
+-- the first choices of the given rota were followed, up to top; no allowed rota that leaves it at a later one comes after it
 pub record Replayed (n : ℕ) (ws r W W′ : List ℕ) (top t : ℕ) : Type 0 where
   pub around : Around n W W′
   pub within : top ≤ n
@@ -71,6 +72,7 @@ pub record Raised (n : ℕ) (ws r : List ℕ) (p : ℕ) (W W′ : List ℕ) (t :
   pub early : getD r p 0 ≡ 0
   pub stands : Stands n ws (Kept r p) W′ t
 
+-- choice p is raised; or it cannot be, and nothing has changed
 abbrev pub LiftSays : ℕ → List ℕ → List ℕ → ℕ → ℕ → List ℕ → List ℕ → Joined → Type 0
 LiftSays n ws r p tail W W′ (Joined.Kept t) = Raised n ws r p W W′ t
 LiftSays n ws r p tail W W′ Joined.Refused = Unchanged n ws tail W W′ × NoneAt n ws r p
@@ -85,6 +87,7 @@ pub record Forgot (n k : ℕ) (W W′ : List ℕ) : Type 0 where
   pub spared : Spared n W W′
   pub zeros : (x : ℕ) → x < k → spare n W′ x ≡ 0
 
+-- the set says the next rota; or none comes after; or there is none at all
 abbrev pub TurnSays : ℕ → List ℕ → List ℕ → List ℕ → List ℕ → Turn → Type 0
 TurnSays n ws r W W′ Turn.Moved = Around n W W′ × Next n ws r (rotaOf n W′)
 TurnSays n ws r W W′ Turn.Ended = Around n W W′ × Possible n ws × Ended n ws r

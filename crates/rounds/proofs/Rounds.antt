@@ -48,13 +48,14 @@ more-apart s apart holding =
       keeps = λ x l h. rw (apart .spares x l) h;
     }
 
--- a trial that is kept, and one that fails
+-- a trial of c is kept, and that is noted
 pub tried-possible : {n : ℕ} {ws : List ℕ} {c tail t : ℕ} {W W₁ : List ℕ} → State n ws W tail → c < 2 * n → Grew n ws c tail W W₁ t → Considered n ws c W (set W₁ (spareAt n c) 1) t
 tried-possible {n} {ws} {c} {tail} {t} {W} {W₁} f l g =
     let m = more-apart f (g .apart) (g .holding) in
     let s = more-noted n ws W₁ t c 1 l (m .state) (inl (refl, g .free)) in
     record { more = more-on m (s .more); here = λ z. s .here (unmarked (opposite-below n c l) (λ h. g .holding .consistent c (g .holds c (inr (reach-refl ws c))) h)) }
 
+-- or fails, and that is noted
 pub tried-failing : {n : ℕ} {ws : List ℕ} {c tail b : ℕ} {W W₁ W₂ : List ℕ} → State n ws W tail → GaveUp n ws c tail W W₁ b → Taught n ws c tail W₁ W₂ → Considered n ws c W W₂ tail
 tried-failing {n} {ws} {c} {tail} {b} {W} {W₁} {W₂} f g t =
     let k : More n ws W₁ W₂ tail = record { around = t .around; state = t .state; keeps = λ x l h. ⊎-elim (λ e. omega arith) (λ e. omega arith) (t .spares x l) } in
@@ -78,9 +79,11 @@ round-undone {n} {ws} {W} {W′} s u = more-apart s (u .apart) (holding-none n w
 pub swept-none : {n : ℕ} {ws W : List ℕ} → State n ws W 0 → Swept n ws 0 W W
 swept-none s = record { more = more-none s; all = λ x h. absurd (omega arith) }
 
+-- what was noted before the loop stays
 pub swept-after : {n : ℕ} {ws : List ℕ} {k : ℕ} {W W′ W″ : List ℕ} → More n ws W W′ 0 → Swept n ws k W′ W″ → Swept n ws k W W″
 swept-after m s = record { more = more-on m (s .more); all = s .all }
 
+-- a turn of the loop
 pub swept-more : {n : ℕ} {ws : List ℕ} {k : ℕ} {W W′ W″ : List ℕ} → k < 2 * n → Swept n ws k W W′ → FoundOut n ws k W′ W″ → Swept n ws (k + 1) W W″
 swept-more h s a =
     record { more = more-on (s .more) (a .more); all = below-more _ _ (λ x l. a .more .keeps x (omega arith) (s .all x l)) (a .here) }

@@ -35,5 +35,6 @@ pub record Swept (n : ℕ) (ws : List ℕ) (k : ℕ) (W W′ : List ℕ) : Type 
 abbrev pub byteOf : ℕ → ℕ → ℕ
 byteOf late early = cond (eqb early fails) 1 (cond (eqb late fails) 0 2)
 
+-- and the bytes of all choices
 abbrev pub forcedOf : ℕ → List ℕ → List ℕ
 forcedOf n W = build n (λ v. byteOf (spare n W (late v)) (spare n W (early v)))

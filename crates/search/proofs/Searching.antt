@@ -31,9 +31,11 @@ around-refl n W = record { long = refl; heads = λ c l. refl; nexts = λ e. refl
 pub around-trans : {n : ℕ} {W W′ W″ : List ℕ} → Around n W W′ → Around n W′ W″ → Around n W W″
 around-trans p q = record { long = q .long ∙ p .long; heads = λ c l. q .heads c l ∙ p .heads c l; nexts = λ e. q .nexts e ∙ p .nexts e }
 
+-- a move that keeps to marks and trail leaves the rest
 pub apart-around : {n : ℕ} {W W′ : List ℕ} → Apart n W W′ → Around n W W′
 apart-around p = record { long = p .long; heads = p .heads; nexts = p .nexts }
 
+-- where the lists are as they were, they stand
 pub ready-around : {n : ℕ} {ws W W′ : List ℕ} → Ready n ws W → Around n W W′ → Ready n ws W′
 ready-around r p =
     record {
@@ -51,6 +53,7 @@ known-more k same turns =
       turns = turns;
     }
 
+-- nor does it touch a note
 pub known-apart : {n : ℕ} {ws W W′ : List ℕ} → Known n ws W → Apart n W W′ → Known n ws W′
 known-apart k p = known-more k (λ x l. inl (p .spares x l)) (λ x l e. k .turns x l (sym (p .spares x l) ∙ e))
 

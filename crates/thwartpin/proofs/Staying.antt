@@ -29,6 +29,7 @@ module _ {A : Type 0} (says : A → List ℕ → Type 0) (n : ℕ) (ws area work
   after-stays none p = p .written ∙ ap (λ (xs : List ℕ). over xs area) (empty (p .items) (p .right))
   after-stays (refused number place) p = p .areaStays
 
+-- an answer whose number is not 0 writes nothing
 decided-empty : (n : ℕ) (ws : List ℕ) (a : Decided) → (hostDecided a ≡ 0 → ⊥) → (xs : List ℕ) → DecideSays n ws a xs → xs ≡ []
 decided-empty n ws Decided.Possible h xs p = absurd (h refl)
 decided-empty n ws (Decided.Impossible v) h xs p = p .1

@@ -19,7 +19,7 @@ mul-count : tie.Need-mul-count
 mul-count c = search needs
 
 returns : tie.Need-returns
-returns c = let a = c .before .before .before .args in room-short (now (a .part)) (now (a .words)) (a .from) (a .n) (a .m) (c .if1 .taken)
+returns c = let a = c .before .before .before .args in room-short (now (a .part)) (now (a .words)) (a .from) (a .n) (a .m) (omega (arith, c .if1 .taken))
 
 mul-limit : tie.Need-mul-limit
 mul-limit c = search needs

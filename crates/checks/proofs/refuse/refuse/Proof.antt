@@ -4,7 +4,6 @@ use Rattle.checks.proofs.refuse.refuse.Statement.{statement}
 use Rattle.checks.proofs.refuse.refuse.Tie as tie
 use borrow.Author.Tests.{lt-ltb, le-ltb, eq-eqb, ne-eqb}
 use Rattle.meaning.specs.Refusals.{listDue}
-use Rattle.meaning.specs.Rules.{left}
 
 returns : tie.Need-returns
 unfolding listDue

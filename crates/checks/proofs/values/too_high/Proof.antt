@@ -20,7 +20,7 @@ shared-slice-read-if1 : tie.Need-shared-slice-read-if1 Inv-loop μ-loop
 shared-slice-read-if1 c = omega (arith, (c .before .before .before .pre))
 
 returns : tie.Need-returns Inv-loop μ-loop
-returns c = front-over _ _ ((c .before .before .before .before .pre)) _ ((c .before .before .before .loop) .inv .0) ((c .before .before .before .loop) .inv .1) (λ h. (c .if1) .taken)
+returns c = front-over _ _ ((c .before .before .before .before .pre)) _ ((c .before .before .before .loop) .inv .0) ((c .before .before .before .loop) .inv .1) (λ h. omega (arith, (c .if1) .taken))
 
 add-i : tie.Need-add-i Inv-loop μ-loop
 add-i c = omega arith

@@ -5,7 +5,6 @@ use borrow.Author.Needs.{needs}
 use denote.Ref.{now}
 use Rattle.components.proofs.tables.cursor_of.Statement.{statement}
 use Rattle.components.proofs.tables.cursor_of.Tie as tie
-use Rattle.meaning.specs.Codes.{opposite}
 use Rattle.moves.specs.Layout.{head}
 use Rattle.meaning.proofs.CodeLaws.{opposite-below}
 

@@ -4,7 +4,6 @@ use native.Mathlib.Omega.{arith}
 use borrow.Author.Needs.{needs}
 use Rattle.components.proofs.tables.set_cursor.Statement.{statement}
 use Rattle.components.proofs.tables.set_cursor.Tie as tie
-use Rattle.meaning.specs.Codes.{opposite}
 use Rattle.meaning.proofs.CodeLaws.{opposite-below}
 
 opposite-requires : tie.Need-opposite-requires

@@ -7,7 +7,7 @@ use borrow.Author.Needs.{needs}
 use denote.Ref.{now}
 use Rattle.components.proofs.walk.turn.Statement.{statement}
 use Rattle.components.proofs.walk.turn.Tie as tie
-use Rattle.components.specs.Walk.{cursor, orZero, Scanned}
+use Rattle.components.specs.Walk.{orZero, Scanned}
 use Rattle.moves.specs.Layout.{trail}
 use Rattle.components.proofs.Storing.{Noted, noted-at, pushed-at}
 use Rattle.components.proofs.Turning.{lastPlace, lastCode, Last, last-of, last-cursor, low-lt, cursor-lt, hit-lt, noted-stacked, not-first, before-last, turn-push, turn-close, turn-drop}

@@ -5,7 +5,6 @@ use Prim.Native.Nat.{_*_, _<_}
 use native.Mathlib.Omega.{arith}
 use borrow.Author.Needs.{needs}
 use denote.Ref.{now}
-use Rattle.meaning.specs.Codes.{opposite}
 use Rattle.moves.specs.Layout.{mark}
 use Rattle.replay.proofs.Replaying.{join-has, unchanged-none, unchanged-gave-up}
 use Rattle.meaning.proofs.CodeLaws.{opposite-below}

@@ -2,7 +2,6 @@
 use Rattle.rounds.proofs.bytes.byte_of.Statement.{statement}
 use Rattle.rounds.proofs.bytes.byte_of.Tie as tie
 use borrow.Author.Tests.{eq-eqb, ne-eqb}
-use Rattle.meaning.specs.Rules.{left}
 
 returns : tie.Need-returns
 returns c = simp (eq-eqb _ _ ((c .if1) .taken))

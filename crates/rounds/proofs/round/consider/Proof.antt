@@ -6,7 +6,6 @@ use mathlib.Core.Path.{refl, ap, _∙_}
 use mathlib.Core.Logic.{inl}
 use native.Mathlib.Omega.{arith}
 use denote.Ref.{now}
-use Rattle.meaning.specs.Codes.{opposite}
 use Rattle.moves.specs.Layout.{mark}
 use Rattle.rounds.proofs.Rounds.{more-none, more-noted, in-set}
 use Rattle.meaning.proofs.CodeLaws.{opposite-below}

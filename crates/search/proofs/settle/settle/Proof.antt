@@ -8,7 +8,6 @@ use native.Mathlib.Omega.{arith}
 use denote.Ref.{now}
 use Rattle.meaning.specs.Chains.{Reach}
 use Rattle.meaning.specs.Codes.{late, early, opposite}
-use Rattle.meaning.specs.Rules.{left}
 use Rattle.moves.specs.Layout.{mark}
 use Rattle.search.proofs.Searching.{settles-early, settles-late}
 use Rattle.meaning.proofs.CodeLaws.{opposite-early}
