@@ -11,7 +11,7 @@ use crate::number;
 use crate::number::Number;
 use meaning::Refusal;
 
-#[derive(Drop)]
+#[derive(Clone, Copy)]
 pub(crate) enum Checked {
     Good,
     Refused(Refusal),

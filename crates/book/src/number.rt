@@ -6,7 +6,7 @@ ghost use Rattle.book.specs.Inner.{NumberAt, NumberBelow};
 
 use meaning::Refusal;
 
-#[derive(Drop)]
+#[derive(Clone, Copy)]
 pub(crate) enum Number {
     Value { value: usize, next: usize },
     Refused(Refusal),

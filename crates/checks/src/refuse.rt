@@ -8,7 +8,7 @@ ghost use Rattle.checks.specs.Checked.{checked_refusal};
 
 use meaning::{Choice, Refusal, RuleNo};
 
-#[derive(Drop)]
+#[derive(Clone, Copy)]
 pub enum Checked {
     Fine,
     Refused(Refusal),

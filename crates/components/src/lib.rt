@@ -1,6 +1,8 @@
 // Which codes are tied, found in one walk over all of them, and what follows: the lowest choice that clashes, and the ties.
 // For the crates above only: the walk asks its callers for the lists that `moves::index` makes. It is Tarjan's, because that is
 // linear in codes and rules and needs no table beyond the lent work area.
+#![tactic(auto)]
+
 pub mod scan; // looks along a code's list
 pub mod settle; // a component is found
 pub mod stack; // the stores of the walk

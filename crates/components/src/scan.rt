@@ -11,14 +11,14 @@ use moves::ends::{code_at, other_end};
 use moves::layout::next_of;
 
 // A code that was not met yet, if there is one.
-#[derive(Drop)]
+#[derive(Clone, Copy)]
 pub enum Unmet {
     At(Code),
     Nothing,
 }
 
 // Where the list goes on, the lowest rank met, and where the walk goes down.
-#[derive(Drop)]
+#[derive(Clone, Copy)]
 pub struct Found {
     pub cursor: usize,
     pub low: usize,

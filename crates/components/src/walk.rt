@@ -14,7 +14,7 @@ use meaning::Code;
 use moves::layout::{mark_of, narrow, trail_code};
 
 // The counts of the stack and of the path.
-#[derive(Drop)]
+#[derive(Clone, Copy)]
 struct Ends {
     pub top: usize,
     pub depth: usize,

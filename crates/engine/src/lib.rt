@@ -1,4 +1,6 @@
 // The calls on a list. Each looks for refusals first, works in the lent work area, writes its answer and clears the work area last.
+#![tactic(auto)]
+
 ghost use Rattle.meaning.specs.Promises.{Clashes, Decides, Forces, Moves, TiesUp};
 
 use areas::{begin, begin_next, finish};

@@ -1,3 +1,5 @@
 // What a failed trial teaches. For the crates above only: its functions ask their callers for what specs/ of the moves calls `Ready` and `Holding`.
+#![tactic(auto)]
+
 pub mod learn; // what both ends of a failure lead to is noted
 pub mod notes; // what is noted of a code

@@ -11,7 +11,7 @@ use meaning::{CHAINS_ROOM, Clashed, Decided, Listed, ROTA_ROOM, WORDS_ROOM, WORK
 use text::lines::{put_impossible, put_possible, put_refusal};
 
 // The length of the text, or that the area is shorter than any text may be.
-#[derive(Drop)]
+#[derive(Clone, Copy)]
 pub enum Shown {
     Text(usize),
     TooShort,

@@ -1,5 +1,7 @@
 // The printing library: from a book's bytes to the lines that answer it. What the text is stands in specs/, apart from
 // the writers.
+#![tactic(auto)]
+
 mod answer; // the book read, the list answered
 
 pub use answer::{Shown, show};

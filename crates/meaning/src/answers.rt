@@ -3,7 +3,7 @@ use crate::codes::Choice;
 use crate::refusal::Refusal;
 
 // Decide: the first rota is written, or this choice clashes.
-#[derive(Drop)]
+#[derive(Clone, Copy)]
 pub enum Decided {
     Possible,
     Impossible(Choice),
@@ -11,7 +11,7 @@ pub enum Decided {
 }
 
 // Forced and Ties: an item for each choice is written.
-#[derive(Drop)]
+#[derive(Clone, Copy)]
 pub enum Listed {
     Done,
     Impossible,
@@ -19,7 +19,7 @@ pub enum Listed {
 }
 
 // Clash: the two chains of the choice are written one after the other, of these lengths.
-#[derive(Drop)]
+#[derive(Clone, Copy)]
 pub enum Clashed {
     Chains {
         choice: Choice,
@@ -31,7 +31,7 @@ pub enum Clashed {
 }
 
 // Next: the next rota is written, or none comes after, or none exists.
-#[derive(Drop)]
+#[derive(Clone, Copy)]
 pub enum Moved {
     Moved,
     Ended,

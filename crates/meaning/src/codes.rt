@@ -2,13 +2,13 @@
 ghost use Rattle.std.specs.Prelude.{◌≡◌, min};
 ghost use Rattle.meaning.specs.Codes.{opposite, choice_of, value_of, code_of, last_choice};
 
-#[derive(Drop)]
+#[derive(Clone, Copy)]
 pub struct Choice(pub u16);
 
-#[derive(Drop)]
+#[derive(Clone, Copy)]
 pub struct Code(pub u16);
 
-#[derive(Drop)]
+#[derive(Clone, Copy)]
 pub struct RuleNo(pub u16);
 
 impl Choice {
@@ -40,6 +40,7 @@ impl Code {
     pub const LIMIT: usize = 512;
 
     // Without a branch, since every step of a walk takes it.
+    #[tactic(auto, unfolding(crate::specs::Codes::opposite))]
     pub fn opposite(self) -> Code
         ensures { result.0 ≡ opposite self.0 }
     {

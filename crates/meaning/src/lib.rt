@@ -1,5 +1,7 @@
 // What the words of the rules mean: choices, codes and rule numbers, refusals, and the answers of the calls.
 // Each type's meaning stands in specs/, and the laws about it in proofs/.
+#![tactic(auto)]
+
 mod answers; // what each call on a list answers
 mod codes; // the three kinds of count, and the code's own functions
 mod refusal; // what went wrong, and where

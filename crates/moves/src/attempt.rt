@@ -14,7 +14,7 @@ use crate::spread::{touch, undo};
 use meaning::Code;
 
 // The trail's new end; or the code that was met with its opposite, and how many codes were walked.
-#[derive(Drop)]
+#[derive(Clone, Copy)]
 pub enum Trial {
     Kept(usize),
     Failed(Code, usize),

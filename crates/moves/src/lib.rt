@@ -1,5 +1,7 @@
 // The moves of the engine, over one lent work area: occurrence lists, breadth-first walks, and trials.
 // For the crates above only: most functions ask their callers for what specs/ calls `Ready` and `Holding`.
+#![tactic(auto)]
+
 pub mod attempt; // trials that are kept, or undone
 pub mod clear; // words become 0
 pub mod ends; // the ends of the rules, in the words

@@ -11,14 +11,14 @@ use meaning::{Choice, Code};
 use moves::attempt::{Trial, attempt};
 use moves::layout::{mark_of, narrow, set_spare};
 
-#[derive(Drop)]
+#[derive(Clone, Copy)]
 pub(crate) enum Joined {
     Kept(usize),
     Refused,
 }
 
 // How many choices were replayed, the one that could not follow included, and the trail's end.
-#[derive(Drop)]
+#[derive(Clone, Copy)]
 pub(crate) struct Place(pub usize, pub usize);
 
 // Takes c into the set, if it can be.

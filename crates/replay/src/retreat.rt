@@ -11,7 +11,7 @@ use moves::layout::{narrow, spare_of, wide};
 use moves::spread::undo;
 
 // The choice that is raised, or none; and the trail's end.
-#[derive(Drop)]
+#[derive(Clone, Copy)]
 pub(crate) enum Branch {
     At(Choice, usize),
     Nowhere(usize),

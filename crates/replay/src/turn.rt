@@ -12,7 +12,7 @@ use moves::layout::{narrow, set_spare};
 use moves::spread::undo;
 use search::first::{Found, search};
 
-#[derive(Drop)]
+#[derive(Clone, Copy)]
 pub enum Turn {
     Moved,
     Ended,

@@ -1,3 +1,5 @@
 // What is forced, by rounds of trials that are kept. For the crates above only: its functions ask their callers for what specs/ of the search calls `State`.
+#![tactic(auto)]
+
 pub mod bytes; // what the notes say is forced
 pub mod round; // what is noted of each code

@@ -9,7 +9,7 @@ use meaning::Choice;
 use moves::layout::{narrow, wide};
 
 // All choices are settled, or one is stuck; and the trail's end.
-#[derive(Drop)]
+#[derive(Clone, Copy)]
 pub enum Found {
     Whole(usize),
     Stuck(Choice, usize),

@@ -16,7 +16,7 @@ use moves::layout::{mark_of, set_spare, spare_of};
 // How many codes a failed trial has to have walked for its lesson to be worth two more walks.
 const FAR: usize = 24;
 
-#[derive(Drop)]
+#[derive(Clone, Copy)]
 pub enum Settled {
     Kept(usize),
     Stuck,
