@@ -76,8 +76,8 @@ marks_none n W = record { within = omega arith; differ = λ u l. absurd (omega a
 
 -- and with a choice more whose codes have two marks
 pub marks_more : {n v : ℕ} {W : List ℕ} → v < n → TwoMarks n W v → mark n W (late v) ≢ mark n W (early v) → TwoMarks n W (v + 1)
-marks_more {n} {v} {W} vn all now-too =
-    record { within = omega arith; differ = rw add-one (below_suc {P = λ u. mark n W (late u) ≢ mark n W (early u)} v all.differ now-too) }
+marks_more {n} {v} {W} vn all now_too =
+    record { within = omega arith; differ = rw add-one (below_suc {P = λ u. mark n W (late u) ≢ mark n W (early u)} v all.differ now_too) }
 
 -- before the first choice whose codes have one mark, no choice clashes
 free_before : {n v : ℕ} {W : List ℕ} → TwoMarks n W v → (ws : List ℕ) → Leads n ws W → (u : ℕ) → u < v → Clash ws u → ⊥

@@ -1,4 +1,4 @@
--- The laws of the walk: who reaches whom, the walk over functions, its moves over the work area, and what is read off at the end. Proof files cite them and only answer needs.
+-- The laws of the walk: who reaches whom, the walk over functions, its moves over the work area, and what is read off at the end. The answers of the functions cite them.
 pub mod Ways
 pub mod Walking
 pub mod Settling

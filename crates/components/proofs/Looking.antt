@@ -11,7 +11,6 @@ use Rattle.meaning.specs.Chains.{Step}
 use Rattle.meaning.specs.Codes.{opposite}
 use Rattle.moves.specs.Layout.{mark_at, mark, trail, next, Tables, Sizes}
 use Rattle.moves.specs.Lists.{Nexts, Cursor, Passed}
-use Rattle.components.proofs.Settling.{mirrored}
 use Rattle.components.proofs.Storing.{beyond_refl, beyond_trans, beyond_mark}
 use Rattle.meaning.proofs.CodeLaws.{opposite_below}
 use Rattle.meaning.proofs.General.{same?}

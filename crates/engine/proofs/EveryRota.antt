@@ -1,4 +1,4 @@
--- Demand 3, of the engine itself: a call of `decide` and then calls of `next` until it ends list every allowed rota, each once, in dictionary order, and no other.
+-- Every rota, of the engine itself: a call of `decide` and then calls of `next` until it ends list every allowed rota, each once, in dictionary order, and no other.
 -- A call is here all that the function's own contract tells its caller, and nothing more.
 use mathlib.Core.Path.{◌≡◌}
 use mathlib.Core.List.{List, ◌∷◌}
@@ -12,9 +12,9 @@ use Rattle.meaning.specs.Promises.{Decides, Moves}
 use Rattle.meaning.specs.Runs.{RunOf, EveryRota}
 use Rattle.meaning.proofs.EveryRotaOnce.{calls_list_every_rota}
 use Rattle.engine.specs.contracts.decide as decide
-use Rattle.engine.proofs.decide.Reads as decide-reads
+use Rattle.engine.proofs.decide.Reads as decide_reads
 use Rattle.engine.specs.contracts.next as next
-use Rattle.engine.proofs.next.Reads as next-reads
+use Rattle.engine.proofs.next.Reads as next_reads
 
 -- a call with n, ws and two areas, which leaves area' and work' in them
 pub record Lends (κs : Lfts 3) (args : ArgsD decide.signature κs) (exits : AtExit decide.ended κs) (n : ℕ) (ws area work area' work' : List ℕ) : Type 0 where
@@ -31,7 +31,7 @@ pub record DecideCall (n : ℕ) (ws area work : List ℕ) (r : Decided) (area' w
   pub args : ArgsD decide.signature κs
   pub exits : AtExit decide.ended κs
   pub lends : Lends κs args exits n ws area work area' work'
-  pub told : decide-reads.Learnt κs args r exits
+  pub told : decide_reads.Learnt κs args r exits
 
 -- and so `next`
 pub record NextCall (n : ℕ) (ws area work : List ℕ) (r : Moved) (area' work' : List ℕ) : Type 1 where
@@ -39,7 +39,7 @@ pub record NextCall (n : ℕ) (ws area work : List ℕ) (r : Moved) (area' work'
   pub args : ArgsD next.signature κs
   pub exits : AtExit next.ended κs
   pub lends : Lends κs args exits n ws area work area' work'
-  pub told : next-reads.Learnt κs args r exits
+  pub told : next_reads.Learnt κs args r exits
 
 -- what is told of the arguments and exits is told of what they are
 tells : {A : Type 0} (P : ℕ → List ℕ → List ℕ → List ℕ → A → List ℕ → List ℕ → Type 0) (r : A) (κs : Lfts 3) (args : ArgsD decide.signature κs)
@@ -58,6 +58,6 @@ next_keeps n ws area work r area' work' c = tells Moves r c.κs c.args c.exits c
 abbrev pub EngineRun : ℕ → List ℕ → List ℕ → List (List ℕ) → Type 1
 EngineRun n ws = RunOf n (NextCall n ws) (DecideCall n ws)
 
--- demand 3
+-- every allowed rota, each once, in dictionary order, by the engine's own calls
 pub engine_lists_every_rota : (n : ℕ) (ws r : List ℕ) (rs : List (List ℕ)) → EngineRun n ws r rs → EveryRota n ws (r ∷ rs)
 engine_lists_every_rota n ws r rs c = calls_list_every_rota n ws (DecideCall n ws) (NextCall n ws) (decide_keeps n ws) (next_keeps n ws) r rs c

@@ -4,7 +4,6 @@ use mathlib.Core.List.{List}
 use Prim.Native.Nat.{ℕ, ◌-◌, ◌*◌, ◌≤◌, ◌<◌}
 use native.Mathlib.Omega.{arith}
 use lib.ListN.{length, get_or, replicate}
-use borrow.Author.Rules.{rules}
 use Rattle.components.specs.Leads.{Side}
 use Rattle.engine.specs.Beginning.{Prepared}
 use Rattle.meaning.specs.Sizes.{work_needs, over, cleared}
@@ -18,7 +17,7 @@ use Rattle.moves.proofs.Trying.{holding_none}
 use Rattle.search.proofs.Searching.{known_none}
 
 -- an accepted list has the sizes that the moves ask for
-pub accepted_sizes : {n : ℕ} {ws : List ℕ} {area rules : ℕ} {W : List ℕ} → Accepted n ws area rules (length W) → Sizes n ws W
+pub accepted_sizes : {n : ℕ} {ws : List ℕ} {area needs : ℕ} {W : List ℕ} → Accepted n ws area needs (length W) → Sizes n ws W
 accepted_sizes a = record { few = a.choices; short = a.few; even = omega (arith, a.even); codes = a.range; room = a.space }
 
 -- the tables are cleared

@@ -1,6 +1,6 @@
 -- How a call begins.
 use Rattle.std.specs.Prelude.{◌≡◌, List, ℕ, ◌*◌, ◌≤◌, ◌<◌, length}
-use Rattle.meaning.specs.Refusals.{Due, none, as_due}
+use Rattle.meaning.specs.Refusals.{Due, as_due}
 use Rattle.moves.specs.Layout.{mark, next}
 use Rattle.search.specs.State.{State}
 use Rattle.checks.specs.declared.refuse.Checked.{Checked}

@@ -33,6 +33,11 @@ unfolding book_due
 text_g =
     inr (record { choice = 0; there = 2 ∷ 3 ∷ []; back = 0 ∷ 1 ∷ []; lowest = right_g.1; there_shortest = right_g.2; back_shortest = right_g.3; is = refl })
 
+-- DueText: the empty book is refused by 7 at 0
+pub text_empty : BookText [] (114 ∷ 101 ∷ 102 ∷ 117 ∷ 115 ∷ 101 ∷ 100 ∷ 32 ∷ 55 ∷ 32 ∷ 48 ∷ 10 ∷ [])
+unfolding book_due digits numbers_line
+text_empty = refl
+
 -- Shows: the empty book is refused by 7 at 0, in twelve bytes. text_needs: an area of one byte less stays
 pub show_empty : Shows [] (replicate 5200 7) (Shown.Text 12) (over (refusal_text 7 0) (replicate 5200 7))
 unfolding book_due digits numbers_line

@@ -27,6 +27,7 @@ module _ (ws : List ℕ) (b : ℕ) where
   rest : (a : ℕ) (ks : List ℕ) (p : Chain ws a ks b) (x : ℕ) → In x (stops a ks p) → (js : List ℕ) × Chain ws x js b × (length js ≤ length ks)
   unfolding stops
   rest a [] p x (inl e) = ([], e ∙ p, omega arith)
+  rest a [] p x (inr m) = elim m [ ]
   rest a (k ∷ ks) p x (inl e) = (k ∷ ks, rw e p, omega arith)
   rest a (k ∷ ks) p x (inr m) = let r = rest p.0 ks p.2 x m in (r.0, r.1, omega (arith, r.2))
 
@@ -50,6 +51,7 @@ module _ (ws : List ℕ) (b : ℕ) where
     stops_below : (a : ℕ) (ks : List ℕ) (p : Chain ws a ks b) → a < 2 * n → (x : ℕ) → In x (stops a ks p) → x < 2 * n
     unfolding stops
     stops_below a [] p h x (inl e) = omega arith
+    stops_below a [] p h x (inr m) = elim m [ ]
     stops_below a (k ∷ ks) p h x (inl e) = omega arith
     stops_below a (k ∷ ks) p h x (inr m) = stops_below p.0 ks p.2 (step_below a k p.0 p.1) x m
 

@@ -1,4 +1,4 @@
--- Demand 3, over the promises: a run that starts at Decide's rota and goes on by Next until Ended lists every allowed rota, each once,
+-- Every rota, over the promises: a run that starts at Decide's rota and goes on by Next until Ended lists every allowed rota, each once,
 -- in dictionary order, and no other.
 use mathlib.Core.Path.{◌≡◌, sym, ◌∙◌}
 use mathlib.Core.Logic.{◌⊎◌, inl, inr, ⊎_elim}
@@ -10,8 +10,8 @@ use Rattle.meaning.specs.declared.answers.Decided.{Decided}
 use Rattle.meaning.specs.declared.answers.Moved.{Moved}
 use Rattle.meaning.specs.Order.{Before}
 use Rattle.meaning.specs.Promises.{Answered, After, Decides, Moves}
-use Rattle.meaning.specs.Refusals.{Due, none, refused, list_due, next_due}
-use Rattle.meaning.specs.Rotas.{Allowed, Possible, First, Next, Ended}
+use Rattle.meaning.specs.Refusals.{Due, refused, list_due, next_due}
+use Rattle.meaning.specs.Rotas.{Allowed, First, Next, Ended}
 use Rattle.meaning.specs.Runs.{Follow, InOrder, GoesOn, RunOf, Run, OneOf, Ascending, EveryRota}
 use Rattle.meaning.specs.Sizes.{rota_needs}
 use Rattle.meaning.proofs.RefusalLaws.{not_refused}
@@ -87,7 +87,7 @@ module _ (n : ℕ) (ws : List ℕ) where
         ascending = (follow_after r rs p.1, follow_ascending r rs p.1);
       }
 
--- demand 3
+-- every allowed rota, each once, in dictionary order
 pub every_rota_once : (n : ℕ) (ws r : List ℕ) (rs : List (List ℕ)) → Run n ws r rs → EveryRota n ws (r ∷ rs)
 every_rota_once n ws r rs p = in_order_every n ws r rs (run_in_order n ws r rs p)
 

@@ -57,16 +57,16 @@ module _ (ws : List ℕ) (b : ℕ) where
       (k, p.1.is_rule, step_begins ws b a k (Has l) (p.0, p.1, chain_has p.0 ks l (omega arith) p.2))
 
   -- of the chains of l rules the first
-  First-of : ℕ → ℕ → Type 0
-  First-of l a = (ks : List ℕ) × Chain ws a ks b × (length ks ≡ l) × ((js : List ℕ) → Chain ws a js b → length js ≡ l → Before js ks → ⊥)
+  FirstOf : ℕ → ℕ → Type 0
+  FirstOf l a = (ks : List ℕ) × Chain ws a ks b × (length ks ≡ l) × ((js : List ℕ) → Chain ws a js b → length js ≡ l → Before js ks → ⊥)
 
   -- where there is a chain of l rules, there is a first
-  first_of : (l a : ℕ) → Has l a → First-of l a
-  unfolding Has First-of
+  first_of : (l a : ℕ) → Has l a → FirstOf l a
+  unfolding Has FirstOf
   first_of zero a p = ([], p, refl, (λ js q e h. before_nil js h))
   first_of (suc l) a p = go (least_of (λ k. Begins ws b a k (Has l)) (λ k. begins? ws b a k (has? l)) p.0 p.2) (λ c h. first_of l c h)
     where
-      go : ((k : ℕ) × Begins ws b a k (Has l) × ((j : ℕ) → j < k → Begins ws b a j (Has l) → ⊥)) → ((c : ℕ) → Has l c → First-of l c) → First-of (suc l) a
+      go : ((k : ℕ) × Begins ws b a k (Has l) × ((j : ℕ) → j < k → Begins ws b a j (Has l) → ⊥)) → ((c : ℕ) → Has l c → FirstOf l c) → FirstOf (suc l) a
       go w rec =
           let s = begins_step ws b a w.0 (Has l) w.1 in
           let f = rec s.0 s.2 in
@@ -83,7 +83,7 @@ module _ (ws : List ℕ) (b : ℕ) where
 
   -- so where a reaches b there is a shortest chain, the first of its length
   pub shortest_exists : (a : ℕ) → Reach ws a b → (ks : List ℕ) × Shortest ws a b ks
-  unfolding First-of
+  unfolding FirstOf
   shortest_exists a p =
       let l = least_of (λ l. Has l a) (λ l. has? l a) (length p.0) (chain_has a p.0 (length p.0) refl p.1) in
       let f = first_of l.0 a l.1 in (

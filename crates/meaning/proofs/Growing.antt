@@ -13,7 +13,7 @@ use Rattle.meaning.proofs.ChainLaws.{reach_refl, true_or_opposite, true_early}
 use Rattle.meaning.proofs.CodeLaws.{opposite_below, opposite_late, opposite_early, choice_late, choice_early, choice_below}
 use Rattle.meaning.proofs.Firsts.{Must, first_by}
 use Rattle.meaning.proofs.General.{below_or_from, below_suc, build, length_build, get_or_build, build_le}
-use Rattle.meaning.proofs.Reaching.{to, reach?}
+use Rattle.meaning.proofs.Reaching.{to}
 use Rattle.meaning.proofs.Sets.{Closed, Consistent, Follows, With, closed_reach, follows_allowed, with_closed, with_consistent, reach_closed, reach_consistent}
 
 -- a code of S that speaks of a choice before v leads to d

@@ -4,7 +4,7 @@ use mathlib.Core.List.{List}
 use Prim.Native.Nat.{ℕ}
 use Rattle.meaning.specs.declared.refusal.Refusal.{Refusal}
 use Rattle.meaning.specs.Promises.{Answered, Keeps}
-use Rattle.meaning.specs.Refusals.{Due, none, as_due}
+use Rattle.meaning.specs.Refusals.{Due, as_due}
 
 module _ {A : Type 0} (refusal : A → Due) (says : A → List ℕ → Type 0) (n : ℕ) (ws area work : List ℕ) where
   -- nothing is due

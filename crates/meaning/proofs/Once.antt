@@ -14,7 +14,7 @@ use Rattle.meaning.specs.Chains.{Tie}
 use Rattle.meaning.specs.Codes.{late, early}
 use Rattle.meaning.specs.Promises.{After, Keeps, decided_refusal, DecideSays, Decides, listed_refusal, ListedSays, Forces, TiesUp, clashed_refusal, BothChains, ClashSays, Clashes, moved_refusal, NextSays, Moves}
 use Rattle.meaning.specs.Refusals.{Due, none, refused, list_due, next_due}
-use Rattle.meaning.specs.Rotas.{Allowed, Possible, Impossible, Ended, Forced}
+use Rattle.meaning.specs.Rotas.{Allowed, Forced}
 use Rattle.meaning.specs.Sizes.{rota_needs, chains_need, ties_need, over}
 use Rattle.meaning.proofs.ChainLaws.{clash_impossible}
 use Rattle.meaning.proofs.RefusalLaws.{named, due_named}

@@ -15,16 +15,16 @@ use Rattle.meaning.specs.declared.answers.Moved.{Moved}
 use Rattle.meaning.specs.Chains.{Clash, LowestClash, Tie}
 use Rattle.meaning.specs.Codes.{late, early}
 use Rattle.meaning.specs.Promises.{Keeps, decided_refusal, DecideSays, Decides, listed_refusal, Each, ListedSays, Forces, TiesUp, clashed_refusal, ClashSays, Clashes, moved_refusal, NextSays, Moves}
-use Rattle.meaning.specs.Refusals.{Due, none, refused, as_due, Check, check, first_of, list_checks, next_checks, list_due, next_due}
-use Rattle.meaning.specs.Rotas.{Rota, Possible, Impossible, Ended, Forced}
-use Rattle.meaning.specs.Rules.{right, InRange}
+use Rattle.meaning.specs.Refusals.{Due, refused, as_due, Check, check, first_of, list_checks, next_checks, list_due, next_due}
+use Rattle.meaning.specs.Rotas.{Rota, Forced}
+use Rattle.meaning.specs.Rules.{InRange}
 use Rattle.meaning.specs.Sizes.{rota_needs, chains_need, ties_need, over, cleared}
 use Rattle.meaning.proofs.ChainLaws.{clash_impossible}
 use Rattle.meaning.proofs.Exists.{tie_exists, forced_exists, shortest_exists}
 use Rattle.meaning.proofs.General.{below_or_from}
 use Rattle.meaning.proofs.NextLaws.{next_or_ended}
 use Rattle.meaning.proofs.RefusalLaws.{not_refused, Accepted, accepted, next_accepted, named, AllNamed}
-use Rattle.meaning.proofs.TwoSat.{lowest, possible_or_clash, possible_free}
+use Rattle.meaning.proofs.TwoSat.{possible_or_clash, possible_free}
 
 -- so what is due is a refusal
 due_is_named : (cs : List Check) → AllNamed cs → (number place : ℕ) → first_of cs ≡ refused number place → as_due (named number place) ≡ refused number place

@@ -10,7 +10,7 @@ use borrow.Author.Tests.{leb-false, ltb-false, eqb-false, le-leb, lt-leb, lt-ltb
 use lib.ListN.{length, get_or, take}
 use Rattle.meaning.specs.declared.refusal.Refusal.{Refusal}
 use Rattle.meaning.specs.declared.refusal.Refusal.TheVariants.{TooManyChoices, OddWords, TooManyRules, CodeTooHigh, WorkTooShort, AnswerTooShort, BookEnds, NumberTooLong, NumberPadded, BytesLeft, ValueTooHigh}
-use Rattle.meaning.specs.Refusals.{number_of, place_of, Due, none, refused, as_due, Check, check, first_of, first_over, over_check, list_checks, next_checks, list_due, next_due}
+use Rattle.meaning.specs.Refusals.{number_of, place_of, Due, refused, as_due, Check, check, first_of, first_over, over_check, list_checks, next_checks, list_due, next_due}
 use Rattle.meaning.specs.Rules.{rules, InRange}
 use Rattle.meaning.specs.Sizes.{max_choices, max_rules, rota_needs, work_needs}
 use Rattle.meaning.proofs.General.{below_or_from}

@@ -14,7 +14,7 @@ use Rattle.meaning.specs.Rules.{rules, left, right}
 use Rattle.meaning.proofs.General.{below_or_from, below_suc, last_or_below}
 use Rattle.meaning.proofs.OrderLaws.{before_uncons, before_nil, before_join, before_pad, before_unpad}
 use Rattle.meaning.proofs.Reaching.{reach?}
-use Rattle.meaning.proofs.TwoSat.{clash?, lowest}
+use Rattle.meaning.proofs.TwoSat.{clash?}
 
 -- a test passes
 abbrev pub IsYes : {P : Type 0} → Dec P → Type 0

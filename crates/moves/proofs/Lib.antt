@@ -1,4 +1,4 @@
--- The laws of the moves: loads after stores, ends and steps, lists, and a file for each walk. Proof files cite them and only answer needs.
+-- The laws of the moves: loads after stores, ends and steps, lists, and a file for each walk. The answers of the functions cite them.
 pub mod Places
 pub mod Steps
 pub mod Linking

@@ -19,7 +19,6 @@ use Rattle.search.proofs.Following.{rota_of_lem, rota_follows}
 use Rattle.meaning.proofs.CodeLaws.{opposite_late, opposite_early}
 use Rattle.meaning.proofs.Growing.{Grown, grown_same, grown_early, grown_late, grown_has_early, grown_has_late, grown_free, grown_first}
 use Rattle.meaning.proofs.Sets.{With}
-use Rattle.meaning.proofs.TwoSat.{lowest}
 use Rattle.moves.proofs.Places.{sizes_long, ready_apart}
 use Rattle.moves.proofs.Trying.{unmarked, held_there, held_back}
 

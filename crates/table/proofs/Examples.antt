@@ -12,7 +12,7 @@ use Rattle.meaning.specs.declared.answers.Clashed.{Clashed}
 use Rattle.meaning.specs.declared.answers.Moved.{Moved}
 use Rattle.meaning.specs.Codes.{code_of, last_choice}
 use Rattle.meaning.specs.Promises.{Decides, Forces, TiesUp, Clashes, Moves}
-use Rattle.meaning.specs.Refusals.{Due, none, refused, as_due, list_due, next_due}
+use Rattle.meaning.specs.Refusals.{Due, refused, as_due, list_due, next_due}
 use Rattle.meaning.specs.Rotas.{Forced}
 use Rattle.meaning.specs.Rules.{InRange, left, right, rules}
 use Rattle.meaning.specs.Runs.{Run, EveryRota}
@@ -49,7 +49,7 @@ over_stays = refl
 pub cleared_stays : cleared 0 [] (replicate 17 7) ≡ replicate 16 0 ++ 7 ∷ []
 cleared_stays = refl
 
--- as_due, numberOf, placeOf
+-- as_due, number_of, place_of
 pub as_due_lem : (as_due (WorkTooShort 0) ≡ refused 5 0) × (as_due (ValueTooHigh 9) ≡ refused 11 9)
 as_due_lem = (refl, refl)
 

@@ -14,16 +14,14 @@ use Rattle.meaning.specs.declared.answers.Moved.{Moved}
 use Rattle.meaning.specs.Chains.{LowestClash, Shortest, Tie}
 use Rattle.meaning.specs.Codes.{late, early}
 use Rattle.meaning.specs.Promises.{Keeps, decided_refusal, DecideSays, Decides, listed_refusal, ListedSays, TiesUp, clashed_refusal, ClashSays, Clashes, moved_refusal, NextSays, Moves}
-use Rattle.meaning.specs.Refusals.{number_of, place_of, Due, none, list_due, next_due}
-use Rattle.meaning.specs.Rotas.{Possible, First, Next, Ended}
-use Rattle.meaning.specs.Rules.{right}
+use Rattle.meaning.specs.Refusals.{number_of, place_of, Due, list_due, next_due}
+use Rattle.meaning.specs.Rotas.{First, Next}
 use Rattle.meaning.specs.Sizes.{rota_needs, chains_need, ties_need, work_needs, over}
 use Rattle.table.specs.Table.{case_d, case_f, case_g, case_i}
 use Rattle.meaning.proofs.EveryRotaOnce.{answered}
 use Rattle.table.proofs.Marked.{right_b, right_c, right_d, right_f, right_g, right_i}
 use Rattle.meaning.proofs.Once.{decide_once, listed_once, clash_once, next_once}
 use Rattle.meaning.proofs.RefusalLaws.{not_refused}
-use Rattle.meaning.proofs.TwoSat.{lowest}
 use Rattle.meaning.proofs.Unique.{tie_unique}
 
 -- what an engine leaves: an answer, and the two areas afterwards

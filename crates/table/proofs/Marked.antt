@@ -5,7 +5,7 @@ use Prim.Native.Nat.{ℕ}
 use native.Mathlib.Decide.{ℕ_discrete, dec_le, dec_lt}
 use lib.ListN.{get_or}
 use Rattle.meaning.specs.Codes.{late, early, opposite}
-use Rattle.meaning.specs.Refusals.{Due, none, refused, list_due}
+use Rattle.meaning.specs.Refusals.{Due, refused, list_due}
 use Rattle.meaning.specs.Runs.{Follow, InOrder}
 use Rattle.table.specs.Table.{Answer, possible, impossible, refusal, Asked, least_due, Right, Case, case_a, case_b, case_c, case_d, case_f, case_g, case_i, case_j, cases, Every}
 use Rattle.meaning.proofs.ChainLaws.{clash_impossible}
