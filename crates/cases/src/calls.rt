@@ -1,99 +1,106 @@
 // One function for each call on a list: it lends the areas, calls, and prints the answer.
 use crate::print::{choice_of, refusal, text, values, words_of};
 use meaning::{Clashed, Decided, Listed, Moved};
+use std::io;
 
-pub(crate) fn decide(name: &[u8], n: usize, words: &[u16]) {
+pub(crate) fn decide(rt: &impl Print, name: &[u8], n: usize, words: &[u16]) -> io::Result<()> {
     let mut rota = [7u8; 8];
     let mut work = [7u16; 128];
-    text(name);
-    text(b" decide: ");
+    text(rt, name)?;
+    text(rt, b" decide: ")?;
     match engine::decide(n, words, &mut rota, &mut work) {
         Decided::Possible => {
-            text(b"possible, rota");
-            values(&rota, n);
+            text(rt, b"possible, rota")?;
+            values(rt, &rota, n)?;
         }
         Decided::Impossible(v) => {
-            text(b"impossible, choice ");
-            choice_of(v);
+            text(rt, b"impossible, choice ")?;
+            choice_of(rt, v)?;
         }
-        Decided::Refused(r) => refusal(r),
+        Decided::Refused(r) => refusal(rt, r)?,
     }
-    text(b"\n");
+    text(rt, b"\n")
 }
 
-pub(crate) fn forced(name: &[u8], n: usize, words: &[u16]) {
+pub(crate) fn forced(rt: &impl Print, name: &[u8], n: usize, words: &[u16]) -> io::Result<()> {
     let mut area = [7u8; 8];
     let mut work = [7u16; 128];
-    text(name);
-    text(b" forced: ");
+    text(rt, name)?;
+    text(rt, b" forced: ")?;
     match engine::forced(n, words, &mut area, &mut work) {
         Listed::Done => {
-            text(b"done, values");
-            values(&area, n);
+            text(rt, b"done, values")?;
+            values(rt, &area, n)?;
         }
-        Listed::Impossible => text(b"impossible"),
-        Listed::Refused(r) => refusal(r),
+        Listed::Impossible => text(rt, b"impossible")?,
+        Listed::Refused(r) => refusal(rt, r)?,
     }
-    text(b"\n");
+    text(rt, b"\n")
 }
 
-pub(crate) fn clash(name: &[u8], n: usize, words: &[u16]) {
+pub(crate) fn clash(rt: &impl Print, name: &[u8], n: usize, words: &[u16]) -> io::Result<()> {
     let mut chains = [7u16; 32];
     let mut work = [7u16; 128];
-    text(name);
-    text(b" clash: ");
+    text(rt, name)?;
+    text(rt, b" clash: ")?;
     match engine::clash(n, words, &mut chains, &mut work) {
         Clashed::Chains {
             choice,
             late_early,
             early_late,
         } => {
-            text(b"choice ");
-            choice_of(choice);
-            text(b", late-early");
-            words_of(&chains, 0, late_early);
-            text(b", early-late");
-            words_of(&chains, late_early, early_late);
+            text(rt, b"choice ")?;
+            choice_of(rt, choice)?;
+            text(rt, b", late-early")?;
+            words_of(rt, &chains, 0, late_early)?;
+            text(rt, b", early-late")?;
+            words_of(rt, &chains, late_early, early_late)?;
         }
-        Clashed::Possible => text(b"possible"),
-        Clashed::Refused(r) => refusal(r),
+        Clashed::Possible => text(rt, b"possible")?,
+        Clashed::Refused(r) => refusal(rt, r)?,
     }
-    text(b"\n");
+    text(rt, b"\n")
 }
 
 // After the rota that is early everywhere but, where `middle` is 1, at choice 1.
-pub(crate) fn next(name: &[u8], n: usize, words: &[u16], middle: u8) {
+pub(crate) fn next(
+    rt: &impl Print,
+    name: &[u8],
+    n: usize,
+    words: &[u16],
+    middle: u8,
+) -> io::Result<()> {
     let mut rota = [0u8; 8];
     let mut work = [7u16; 128];
     rota[1] = middle;
-    text(name);
-    text(b" next after");
-    values(&rota, n);
-    text(b": ");
+    text(rt, name)?;
+    text(rt, b" next after")?;
+    values(rt, &rota, n)?;
+    text(rt, b": ")?;
     match engine::next(n, words, &mut rota, &mut work) {
         Moved::Moved => {
-            text(b"moved, rota");
-            values(&rota, n);
+            text(rt, b"moved, rota")?;
+            values(rt, &rota, n)?;
         }
-        Moved::Ended => text(b"ended"),
-        Moved::Impossible => text(b"impossible"),
-        Moved::Refused(r) => refusal(r),
+        Moved::Ended => text(rt, b"ended")?,
+        Moved::Impossible => text(rt, b"impossible")?,
+        Moved::Refused(r) => refusal(rt, r)?,
     }
-    text(b"\n");
+    text(rt, b"\n")
 }
 
-pub(crate) fn ties(name: &[u8], n: usize, words: &[u16]) {
+pub(crate) fn ties(rt: &impl Print, name: &[u8], n: usize, words: &[u16]) -> io::Result<()> {
     let mut area = [7u16; 8];
     let mut work = [7u16; 128];
-    text(name);
-    text(b" ties: ");
+    text(rt, name)?;
+    text(rt, b" ties: ")?;
     match engine::ties(n, words, &mut area, &mut work) {
         Listed::Done => {
-            text(b"done, codes");
-            words_of(&area, 0, n);
+            text(rt, b"done, codes")?;
+            words_of(rt, &area, 0, n)?;
         }
-        Listed::Impossible => text(b"impossible"),
-        Listed::Refused(r) => refusal(r),
+        Listed::Impossible => text(rt, b"impossible")?,
+        Listed::Refused(r) => refusal(rt, r)?,
     }
-    text(b"\n");
+    text(rt, b"\n")
 }

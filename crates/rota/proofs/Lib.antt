@@ -1,0 +1,2 @@
+-- The definitions of specs/, each tried on a small input.
+pub mod Examples
