@@ -3,7 +3,7 @@ use mathlib.Core.Path.{◌≡◌, refl, sym, ap, ◌∙◌}
 use mathlib.Core.List.{List}
 use Prim.Native.Nat.{ℕ, ◌*◌, ◌≤◌}
 use native.Mathlib.Omega.{arith}
-use lib.ListN.{length, take, replicate, length-replicate}
+use lib.ListN.{take, replicate, length-replicate}
 use Rattle.meaning.specs.declared.refusal.Refusal.{Refusal}
 use Rattle.book.specs.declared.answer.Read.{Read}
 use Rattle.book.specs.Checks.{book_due}
@@ -23,12 +23,6 @@ module _ (book : List ℕ) (words' : List ℕ) where
   within n m r =
       let l = read_is_list book fresh n m words' r in
       omega (arith, l.count, l.savable.few)
-
-  -- and the part that is lent on has just those words
-  pub counted : (n m : ℕ) → Reads book fresh (Read.Book n m) words' → 2 * m ≡ length (take (2 * m) words')
-  counted n m r =
-      let l = read_is_list book fresh n m words' r in
-      omega (arith, l.count, l.savable.even, ap length l.front)
 
   -- the book is refused
   pub turned : (rota : List ℕ) (x : ℕ) (refusal : Refusal) → Reads book fresh (Read.Refused refusal) words' → x ≡ number_of refusal → Turned book rota x rota

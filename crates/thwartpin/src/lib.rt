@@ -1,5 +1,7 @@
-// The C face: what include/thwartpin.h declares. Each call is thin over the engine's or the book's, and no caller has to prove anything:
-// whatever lies in the areas, the answer is the one that specs/ leaves open.
+// The calls of the C face: what include/thwartpin.h declares and crate thwartpin_c exports. Each call is thin over the engine's or the book's, and no caller has to
+// prove anything: whatever lies in the areas, the answer is the one that specs/ leaves open.
+#![tactic(auto)]
+
 ghost use Rattle.thwartpin.specs.Lists.{areas, TellsDecided, TellsForced, TellsClash, TellsMoved, TellsTies, TellsRead};
 ghost use Rattle.thwartpin.specs.Hosts.{HostDecides, HostMoves};
 
@@ -12,8 +14,7 @@ const OUT_NEEDS: usize = 3;
 
 const OUT_SHORT: u32 = 200;
 
-#[unsafe(no_mangle)]
-pub extern "C" fn thwartpin_list_decide(
+pub fn thwartpin_list_decide(
     n: usize,
     words: &[u16],
     rota: &mut [u8],
@@ -28,8 +29,7 @@ pub extern "C" fn thwartpin_list_decide(
     tell::decided(engine::decide(n, words, rota, work), out)
 }
 
-#[unsafe(no_mangle)]
-pub extern "C" fn thwartpin_list_forced(
+pub fn thwartpin_list_forced(
     n: usize,
     words: &[u16],
     forced: &mut [u8],
@@ -44,8 +44,7 @@ pub extern "C" fn thwartpin_list_forced(
     tell::listed(engine::forced(n, words, forced, work), out)
 }
 
-#[unsafe(no_mangle)]
-pub extern "C" fn thwartpin_list_clash(
+pub fn thwartpin_list_clash(
     n: usize,
     words: &[u16],
     chain: &mut [u16],
@@ -60,8 +59,7 @@ pub extern "C" fn thwartpin_list_clash(
     tell::clashed(engine::clash(n, words, chain, work), out)
 }
 
-#[unsafe(no_mangle)]
-pub extern "C" fn thwartpin_list_next(
+pub fn thwartpin_list_next(
     n: usize,
     words: &[u16],
     rota: &mut [u8],
@@ -76,8 +74,7 @@ pub extern "C" fn thwartpin_list_next(
     tell::moved(engine::next(n, words, rota, work), out)
 }
 
-#[unsafe(no_mangle)]
-pub extern "C" fn thwartpin_list_ties(
+pub fn thwartpin_list_ties(
     n: usize,
     words: &[u16],
     ties: &mut [u16],
@@ -92,8 +89,7 @@ pub extern "C" fn thwartpin_list_ties(
     tell::listed(engine::ties(n, words, ties, work), out)
 }
 
-#[unsafe(no_mangle)]
-pub extern "C" fn thwartpin_read_book(book: &[u8], words: &mut [u16], out: &mut [u64]) -> u32
+pub fn thwartpin_read_book(book: &[u8], words: &mut [u16], out: &mut [u64]) -> u32
     ensures { TellsRead book.now words.old out.old result words.new out.new }
 {
     if out.len() < OUT_NEEDS {
@@ -103,8 +99,7 @@ pub extern "C" fn thwartpin_read_book(book: &[u8], words: &mut [u16], out: &mut 
 }
 
 // The host's calls. What they work in is their own, at full size, so that a host lends the book and the rota alone.
-#[unsafe(no_mangle)]
-pub extern "C" fn thwartpin_decide(book: &[u8], rota: &mut [u8]) -> u32
+pub fn thwartpin_decide(book: &[u8], rota: &mut [u8]) -> u32
     ensures { HostDecides book.now rota.old result rota.new }
 {
     let mut words = [0u16; WORDS_ROOM];
@@ -119,8 +114,7 @@ pub extern "C" fn thwartpin_decide(book: &[u8], rota: &mut [u8]) -> u32
     }
 }
 
-#[unsafe(no_mangle)]
-pub extern "C" fn thwartpin_next(book: &[u8], rota: &mut [u8]) -> u32
+pub fn thwartpin_next(book: &[u8], rota: &mut [u8]) -> u32
     ensures { HostMoves book.now rota.old result rota.new }
 {
     let mut words = [0u16; WORDS_ROOM];
