@@ -74,7 +74,7 @@ static int out_stays(const struct areas *a, size_t from)
     return 1;
 }
 
-/* The books of the rules' paper, and case J's. */
+/* The listed books, and case J's. */
 struct book {
     const char *name;
     uint8_t bytes[12];
