@@ -1,4 +1,5 @@
 -- The list of an accepted book, as the calls on lists take it.
+use Rattle.std.specs.Prelude.{Ok}
 use mathlib.Core.Path.{◌≡◌, sym}
 use mathlib.Core.List.{List, [], ◌∷◌, ◌++◌}
 use Prim.Native.Nat.{ℕ, ◌+◌, ◌*◌, ◌%◌, ◌≤◌}
@@ -11,7 +12,6 @@ use Rattle.meaning.specs.Rules.{rules}
 use Rattle.meaning.specs.Sizes.{max_choices, max_rules, work_needs, over}
 use Rattle.meaning.specs.Refusals.{none, first_of, first_over, short_place, room_check, list_due}
 use Rattle.meaning.proofs.RefusalLaws.{first_over_lem}
-use Rattle.book.specs.declared.answer.Read.{Read}
 use Rattle.book.specs.Number.{number_size, after_number}
 use Rattle.book.specs.Checks.{choices_in, rules_in, code_bytes, codes_place, codes_in, codes_checks, choices_checks, rules_checks, rest_checks, book_due}
 use Rattle.book.specs.Promise.{Reads}
@@ -45,7 +45,7 @@ pub record IsList (n m : ℕ) (ws words words' : List ℕ) : Type 0 where
   pub front : take (2 * m) words' ≡ ws
 
 -- the list of a book is such a list
-pub read_is_list : (bs words : List ℕ) (n m : ℕ) (words' : List ℕ) → Reads bs words (Read.Book n m) words' → IsList n m (codes_in bs) words words'
+pub read_is_list : (bs words : List ℕ) (n m : ℕ) (words' : List ℕ) → Reads bs words (Ok (record { n = n; m = m })) words' → IsList n m (codes_in bs) words words'
 read_is_list bs words n m words' r =
     let p = passed bs (length words) r.refuses in
     let long : length (codes_in bs) ≡ 2 * rules_in bs = length_numbers_in (2 * rules_in bs) (code_bytes bs) in

@@ -1,4 +1,5 @@
 -- The reader's promise: two outcomes that it allows coincide, and one exists.
+use Rattle.std.specs.Prelude.{Result, Ok, Err}
 use mathlib.Core.Path.{◌≡◌, refl, sym, ap, ap₂, ◌∙◌}
 use mathlib.Core.Bool.{true, false}
 use mathlib.Core.Logic.{◌⊎◌, inl, inr, ⊎_elim}
@@ -9,29 +10,32 @@ use Rattle.meaning.specs.declared.refusal.Refusal.{Refusal}
 use Rattle.meaning.specs.Sizes.{over}
 use Rattle.meaning.specs.Refusals.{number_of, place_of, Due, none, as_due, Check, check, first_of}
 use Rattle.meaning.proofs.RefusalLaws.{not_refused, named, AllNamed, named_same, due_named}
-use Rattle.book.specs.declared.answer.Read.{Read}
+use Rattle.book.specs.declared.answer.Sizes.{Sizes}
 use Rattle.book.specs.Number.{may_follow, goes_on, form_checks, number_checks, number_size, after_number}
 use Rattle.book.specs.Checks.{choices_in, rules_in, code_bytes, codes_place, codes_in, limit_checks, codes_checks, choices_checks, rules_checks, book_checks, book_due}
 use Rattle.book.specs.Promise.{Gives, Reads}
 use Rattle.book.proofs.NumberLaws.{either}
 
+-- the answer that gives n and m
+abbrev given : (n m : ℕ) → Result Sizes Refusal
+given n m = Ok (record { n = n; m = m })
+
 module _ (due : Due) (n m : ℕ) (ws words : List ℕ) where
   -- an answer with n and m, and one that refuses
-  clash : (i j : ℕ) (r : Refusal) (w v : List ℕ) → Gives due n m ws words (Read.Book i j) w → Gives due n m ws words (Read.Refused r) v → ⊥
-  clash i j r w v p q = not_refused (number_of r) (place_of r) (p.refuses ∙ sym q.refuses)
+  clash : (x : Sizes) (r : Refusal) (w v : List ℕ) → Gives due n m ws words (Ok x) w → Gives due n m ws words (Err r) v → ⊥
+  clash x r w v p q = not_refused (number_of r) (place_of r) (p.refuses ∙ sym q.refuses)
 
   -- the answer and the words are determined by what is due, n, m and ws
-  gives_once : (r s : Read) (w v : List ℕ) → Gives due n m ws words r w → Gives due n m ws words s v → (r ≡ s) × (w ≡ v)
-  gives_once (Read.Book i j) (Read.Book k l) w v p q =
-      (ap₂ Read.Book (p.says.0 ∙ sym q.says.0) (p.says.1 ∙ sym q.says.1), p.says.2 ∙ sym q.says.2)
-  gives_once (Read.Book i j) (Read.Refused s) w v p q = absurd (clash i j s w v p q)
-  gives_once (Read.Refused r) (Read.Book k l) w v p q = absurd (clash k l r v w q p)
-  gives_once (Read.Refused r) (Read.Refused s) w v p q =
+  gives_once : (r s : Result Sizes Refusal) (w v : List ℕ) → Gives due n m ws words r w → Gives due n m ws words s v → (r ≡ s) × (w ≡ v)
+  gives_once (Ok x) (Ok y) w v p q = (ap₂ given (p.says.0 ∙ sym q.says.0) (p.says.1 ∙ sym q.says.1), p.says.2 ∙ sym q.says.2)
+  gives_once (Ok x) (Err s) w v p q = absurd (clash x s w v p q)
+  gives_once (Err r) (Ok y) w v p q = absurd (clash y r v w q p)
+  gives_once (Err r) (Err s) w v p q =
       let e : as_due r ≡ as_due s = p.refuses ∙ sym q.refuses in
-      (ap Read.Refused (due_named r (number_of s) (place_of s) e ∙ named_same s), p.says ∙ sym q.says)
+      (ap (λ (x : Refusal). Err x) (due_named r (number_of s) (place_of s) e ∙ named_same s), p.says ∙ sym q.says)
 
 -- two outcomes of reading one book into one area are the same: the answer, and each word afterwards
-pub reads_once : (bs words : List ℕ) (r s : Read) (w v : List ℕ) → Reads bs words r w → Reads bs words s v → (r ≡ s) × (w ≡ v)
+pub reads_once : (bs words : List ℕ) (r s : Result Sizes Refusal) (w v : List ℕ) → Reads bs words r w → Reads bs words s v → (r ≡ s) × (w ≡ v)
 reads_once bs words = gives_once (book_due bs (length words)) (choices_in bs) (rules_in bs) (codes_in bs) words
 
 -- the checks of two lists are those of refusals
@@ -67,8 +71,8 @@ book_named bs room =
     (refl, codes_named (2 * rules_in bs) (2 * choices_in bs) (codes_place bs) (code_bytes bs)))
 
 -- whatever the book and the area are, there is an outcome
-pub reads_exists : (bs words : List ℕ) → (r : Read) × (w : List ℕ) × Reads bs words r w
+pub reads_exists : (bs words : List ℕ) → (r : Result Sizes Refusal) × (w : List ℕ) × Reads bs words r w
 unfolding book_due
 reads_exists bs words =
-    ⊎_elim (λ e. (Read.Book (choices_in bs) (rules_in bs), over (codes_in bs) words, record { refuses = sym e; says = (refl, refl, refl) }))
-    (λ p. (Read.Refused p.0, words, record { refuses = sym p.1; says = refl })) (due_or_none (book_checks bs (length words)) (book_named bs (length words)))
+    ⊎_elim (λ e. (given (choices_in bs) (rules_in bs), over (codes_in bs) words, record { refuses = sym e; says = (refl, refl, refl) }))
+    (λ p. (Err p.0, words, record { refuses = sym p.1; says = refl })) (due_or_none (book_checks bs (length words)) (book_named bs (length words)))

@@ -1,4 +1,5 @@
 -- Reading and writing agree: the book of a list is read back, and what is accepted is the book of the list that is given. Which list that is stands in `GivenLists`.
+use Rattle.std.specs.Prelude.{Ok}
 use mathlib.Core.Path.{◌≡◌, sym, ap, ap₂, ◌∙◌}
 use mathlib.Core.Bool.{false}
 use mathlib.Core.List.{List, ◌++◌}
@@ -9,7 +10,6 @@ use borrow.Author.Tests.{le-ltb}
 use lib.ListN.{length}
 use Rattle.meaning.specs.Rules.{rules}
 use Rattle.meaning.specs.Sizes.{max_choices, max_rules, over}
-use Rattle.book.specs.declared.answer.Read.{Read}
 use Rattle.book.specs.Number.{number_size, after_number}
 use Rattle.book.specs.Checks.{choices_in, rules_in, code_bytes, codes_place, codes_in, choices_checks, rules_checks, book_due}
 use Rattle.book.specs.Promise.{Reads}
@@ -20,7 +20,7 @@ use Rattle.book.proofs.BookLaws.{number_back, codes_back, bytes_after, number_wr
 use Rattle.book.proofs.GivenLists.{passed, read_is_list}
 
 -- the book of a list that fits is read back: n, the number of rules, and the words, written at the front of the area
-pub book_is_read : (n : ℕ) (ws words : List ℕ) → Savable n ws (length words) → Reads (book_of n ws) words (Read.Book n (rules ws)) (over ws words)
+pub book_is_read : (n : ℕ) (ws words : List ℕ) → Savable n ws (length words) → Reads (book_of n ws) words (Ok (record { n = n; m = rules ws })) (over ws words)
 unfolding book_due
 book_is_read n ws words s =
     let bs = book_of n ws in
@@ -43,7 +43,7 @@ book_is_read n ws words s =
     }
 
 -- the bytes of a book that is accepted are those of the book of the list that is given
-pub read_is_book : (bs words : List ℕ) (n m : ℕ) (words' : List ℕ) → Bytes bs → Reads bs words (Read.Book n m) words' → bs ≡ book_of n (codes_in bs)
+pub read_is_book : (bs words : List ℕ) (n m : ℕ) (words' : List ℕ) → Bytes bs → Reads bs words (Ok (record { n = n; m = m })) words' → bs ≡ book_of n (codes_in bs)
 read_is_book bs words n m words' h r =
     let p = passed bs (length words) r.refuses in
     let count : rules_in bs ≡ rules (codes_in bs) = sym r.says.1 ∙ (read_is_list bs words n m words' r).count in

@@ -1,25 +1,25 @@
 -- The listed books, with the answer that each has to have. proofs/ListedBooks proves every case.
-use Rattle.std.specs.Prelude.{List, [], ◌∷◌, ℕ}
+use Rattle.std.specs.Prelude.{List, [], ◌∷◌, ℕ, Result, Ok, Err}
 use Rattle.meaning.specs.declared.refusal.Refusal.{Refusal}
 use Rattle.meaning.specs.declared.refusal.Refusal.TheVariants.{TooManyChoices, TooManyRules, CodeTooHigh, AnswerTooShort, BookEnds, NumberTooLong, NumberPadded, BytesLeft}
-use Rattle.book.specs.declared.answer.Read.{Read}
+use Rattle.book.specs.declared.answer.Sizes.{Sizes}
 use Rattle.book.specs.Promise.{Reads}
 
 -- a book, the words of the area that it is read into, the answer, and the words afterwards
 pub record BookCase : Type 0 where
   pub bytes : List ℕ
   pub words : List ℕ
-  pub answer : Read
+  pub answer : Result Sizes Refusal
   pub after : List ℕ
 
 -- a book that is refused leaves the words as they were
 abbrev pub refused : List ℕ → List ℕ → Refusal → BookCase
-refused bs words r = record { bytes = bs; words = words; answer = Read.Refused r; after = words }
+refused bs words r = record { bytes = bs; words = words; answer = Err r; after = words }
 
 -- the words of an area are 7 before the call
 abbrev pub books : List BookCase
 books =
-    record { bytes = 0x80 ∷ 0x02 ∷ 0x00 ∷ []; words = 7 ∷ []; answer = Read.Book 256 0; after = 7 ∷ [] }
+    record { bytes = 0x80 ∷ 0x02 ∷ 0x00 ∷ []; words = 7 ∷ []; answer = Ok (record { n = 256; m = 0 }); after = 7 ∷ [] }
     ∷ refused (0x81 ∷ 0x02 ∷ []) (7 ∷ []) (TooManyChoices 0)
     ∷ refused ([]) (7 ∷ []) (BookEnds 0)
     ∷ refused (0x80 ∷ []) (7 ∷ []) (BookEnds 1)
@@ -32,7 +32,7 @@ books =
     ∷ record {
       bytes = 0x03 ∷ 0x03 ∷ 0x00 ∷ 0x02 ∷ 0x03 ∷ 0x04 ∷ 0x01 ∷ 0x04 ∷ [];
       words = 7 ∷ 7 ∷ 7 ∷ 7 ∷ 7 ∷ 7 ∷ 7 ∷ 7 ∷ [];
-      answer = Read.Book 3 3;
+      answer = Ok (record { n = 3; m = 3 });
       after = 0 ∷ 2 ∷ 3 ∷ 4 ∷ 1 ∷ 4 ∷ 7 ∷ 7 ∷ [];
     }
     ∷ []

@@ -1,8 +1,6 @@
-// What the reader of a book answers: n and m, with the 2m words written, or why the book is refused.
-use meaning::Refusal;
-
-#[derive(Clone, Copy)]
-pub enum Read {
-    Book { n: usize, m: usize },
-    Refused(Refusal),
+// What a book gives where it is not refused.
+#[derive(Clone, Copy, Debug, PartialEq, Eq)]
+pub struct Sizes {
+    pub n: usize,
+    pub m: usize,
 }

@@ -1,24 +1,27 @@
-// The whole book: n, then m, then the codes, whose reader is lent the rest of the book as a part.
+// The whole book: n, then m, then the 2m codes.
 ghost use Rattle.book.specs.Promise.{Reads};
 
-use crate::answer::Read;
-use crate::number::Number;
-use crate::{codes, number};
+use crate::answer::Sizes;
+use crate::number::Reader;
 use meaning::{Choice, Refusal, RuleNo};
 
-pub fn read(book: &[u8], words: &mut [u16]) -> Read
+pub fn read(book: &[u8], words: &mut [u16]) -> Result<Sizes, Refusal>
     ensures { Reads book.now words.old result words.new }
 {
-    match number::number_below(book, 0, 0, Choice::LIMIT + 1, Refusal::TooManyChoices(0)) {
-        Number::Refused(refusal) => Read::Refused(refusal),
-        Number::Value { value: n, next: at } => {
-            match number::number_below(book, 0, at, RuleNo::LIMIT + 1, Refusal::TooManyRules(at)) {
-                Number::Refused(refusal) => Read::Refused(refusal),
-                Number::Value {
-                    value: m,
-                    next: from,
-                } => codes::read_codes(&book[from..], from, n, m, words),
-            }
-        }
+    let mut reader = Reader {
+        book,
+        from: 0,
+        at: 0,
+    };
+    let n = reader.number_below(Choice::LIMIT + 1, Refusal::TooManyChoices(0))?;
+    let too_many = Refusal::TooManyRules(reader.place());
+    let m = reader.number_below(RuleNo::LIMIT + 1, too_many)?;
+    let count = 2 * m;
+    if words.len() < count {
+        return Err(Refusal::AnswerTooShort(0));
     }
+    let codes = reader.rest();
+    codes.check_codes(count, 2 * n)?;
+    codes.write_codes(&mut words[..count]);
+    Ok(Sizes { n, m })
 }

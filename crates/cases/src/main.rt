@@ -4,43 +4,36 @@
 
 mod books; // the reader, book by book
 mod calls; // the calls on a list, each with a function that prints its answer
-mod print; // words, numbers, and lists of them
+mod row; // items of a line
 
 use std::io;
 
-// Every call on one list.
-fn run(rt: &impl Print, name: &[u8], n: usize, words: &[u16]) -> io::Result<()> {
-    calls::decide(rt, name, n, words)?;
-    calls::forced(rt, name, n, words)?;
-    calls::clash(rt, name, n, words)?;
-    calls::next(rt, name, n, words, 0)?;
-    calls::ties(rt, name, n, words)
-}
-
-fn a_to_d(rt: &impl Print) -> io::Result<()> {
-    run(rt, b"A", 0, &[])?;
-    run(rt, b"B", 1, &[])?;
-    run(rt, b"C", 1, &[0, 0])?;
-    run(rt, b"D", 1, &[0, 0, 1, 1])
-}
-
-fn e_to_h(rt: &impl Print) -> io::Result<()> {
-    run(rt, b"E", 2, &[0, 2, 0, 3])?;
-    run(rt, b"F", 2, &[1, 2, 3, 0])?;
-    run(rt, b"G", 2, &[0, 2, 0, 3, 1, 2, 1, 3])?;
-    run(rt, b"H", 1, &[0, 1])
-}
-
-fn i_to_k(rt: &impl Print) -> io::Result<()> {
-    run(rt, b"I", 3, &[1, 2, 3, 4])?;
-    calls::next(rt, b"I", 3, &[1, 2, 3, 4], 1)?;
-    run(rt, b"J", 3, &[0, 2, 3, 4, 1, 4])?;
-    run(rt, b"K", 2, &[0, 4])
-}
+// (Program walks has the first ten too: a library for a table would be more.) Each case of the table: its name, the number of choices, the rules' words, and whether Next is asked again, after the rota with choice 1 late.
+const CASES: [(&str, usize, &[u16], bool); 11] = [
+    ("A", 0, &[], false),
+    ("B", 1, &[], false),
+    ("C", 1, &[0, 0], false),
+    ("D", 1, &[0, 0, 1, 1], false),
+    ("E", 2, &[0, 2, 0, 3], false),
+    ("F", 2, &[1, 2, 3, 0], false),
+    ("G", 2, &[0, 2, 0, 3, 1, 2, 1, 3], false),
+    ("H", 1, &[0, 1], false),
+    ("I", 3, &[1, 2, 3, 4], true),
+    ("J", 3, &[0, 2, 3, 4, 1, 4], false),
+    ("K", 2, &[0, 4], false),
+];
 
 fn main(rt: HostRuntime) -> io::Result<()> {
     books::all(&rt)?;
-    a_to_d(&rt)?;
-    e_to_h(&rt)?;
-    i_to_k(&rt)
+    for (name, n, words, again) in CASES {
+        calls::decide(&rt, name, n, words)?;
+        calls::forced(&rt, name, n, words)?;
+        calls::clash(&rt, name, n, words)?;
+        calls::next(&rt, name, n, words, 0)?;
+        calls::ties(&rt, name, n, words)?;
+        if again {
+            calls::next(&rt, name, n, words, 1)?;
+        }
+    }
+    Ok(())
 }

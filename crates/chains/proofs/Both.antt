@@ -3,28 +3,29 @@ use mathlib.Core.Path.{◌≡◌, refl, ap, ◌∙◌}
 use mathlib.Core.List.{List, ◌++◌}
 use Prim.Native.Nat.{ℕ, ◌+◌, ◌*◌, ◌≤◌, ◌<◌}
 use native.Mathlib.Omega.{arith}
-use lib.ListN.{length}
+use lib.ListN.{length, take, drop, length-drop}
 use Rattle.chains.specs.Traces.{Traced}
 use Rattle.meaning.specs.Chains.{LowestClash}
 use Rattle.meaning.specs.Codes.{late, early, opposite}
 use Rattle.meaning.specs.Promises.{BothChains}
 use Rattle.meaning.specs.Sizes.{chains_need, over}
 use Rattle.moves.specs.Lists.{Ready}
-use Rattle.meaning.proofs.AreaLaws.{over_at_length, over_at_append}
+use Rattle.meaning.proofs.AreaLaws.{over_length, over_at_append}
 use Rattle.meaning.proofs.ChainLength.{shortest_length}
 use Rattle.meaning.proofs.CodeLaws.{opposite_late, opposite_early}
 
 -- behind a first chain there is room for a second
-pub second_room : {n : ℕ} {ws W : List ℕ} {c : ℕ} {area area' : List ℕ} {r : ℕ} → Ready n ws W → c < 2 * n → Traced ws c 0 area area' r →
-    chains_need n ≤ length area → r + 2 * n ≤ length area'
-second_room {n} {ws} {W} {c} {area} rd lc t fits =
+pub second_room : {n : ℕ} {ws W : List ℕ} {c : ℕ} {area area' : List ℕ} {r : ℕ} → Ready n ws W → c < 2 * n → Traced ws c area area' r →
+    chains_need n ≤ length area → (r ≤ length area') × (2 * n ≤ length (drop r area'))
+second_room {n} {ws} {W} {c} {area} {area'} {r} rd lc t fits =
     let short : length t.chain < 2 * n = shortest_length ws (opposite c) n rd.sizes.codes c t.chain lc t.shortest in
-    omega (arith, t.counted, ap length t.written ∙ over_at_length 0 t.chain area (omega arith))
+    let long : length area' ≡ length area = ap length t.written ∙ over_length t.chain area (omega arith) in
+    (omega (arith, t.counted, long), omega (arith, t.counted, long, length-drop r area'))
 
 -- the chains of a choice that clashes, from late to early and then from early to late, are what Clash promises
-pub both_chains : {ws : List ℕ} {v : ℕ} {area area₁ area₂ : List ℕ} {i j : ℕ} → LowestClash ws v → Traced ws (late v) 0 area area₁ i →
-    Traced ws (early v) i area₁ area₂ j → (xs : List ℕ) × BothChains ws v i j xs × (area₂ ≡ over xs area)
-both_chains {ws} {v} {area} {area₁} {area₂} {i} {j} low t b = (
+pub both_chains : {ws : List ℕ} {v : ℕ} {area area₁ part : List ℕ} {i j : ℕ} → LowestClash ws v → Traced ws (late v) area area₁ i →
+    Traced ws (early v) (drop i area₁) part j → (xs : List ℕ) × BothChains ws v i j xs × (take i area₁ ++ part ≡ over xs area)
+both_chains {ws} {v} {area} {area₁} {part} {i} {j} low t b = (
   t.chain ++ b.chain,
   record {
     lowest = low;
@@ -36,5 +37,5 @@ both_chains {ws} {v} {area} {area₁} {area₂} {i} {j} low t b = (
     back_length = b.counted;
     words = refl;
   },
-  b.written ∙ (let e : i ≡ 0 + length t.chain = omega (arith, t.counted) in rw (t.written, e) (over_at_append 0 t.chain b.chain area (omega arith))),
+  ap (λ (l : List ℕ). take i area₁ ++ l) b.written ∙ (let e : i ≡ 0 + length t.chain = omega (arith, t.counted) in rw (t.written, e) (over_at_append 0 t.chain b.chain area (omega arith))),
 )

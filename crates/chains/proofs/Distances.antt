@@ -29,8 +29,8 @@ none_marked n W r x l =
     ⊎_elim (λ e. e) (λ (e : mark n W x ≢ 0). absurd (omega (arith, (r.queued x l (omega arith)).1))) (same? (mark n W x) 0)
 
 -- the marks of a walk from c on top of no marks, read from the other side
-module _ {n : ℕ} {ws : List ℕ} {c : ℕ} {W₀ W : List ℕ} {r : ℕ} (s : Sizes n ws W₀) (clean : Unmarked n W₀) (lc : c < 2 * n)
-    (sp : SpreadFrom n ws c 0 W₀ W r) where
+module _ {n : ℕ} {ws : List ℕ} {c : ℕ} {W₀ W : List ℕ} {t r : ℕ} (s : Sizes n ws W) (clean : Unmarked n W₀) (lc : c < 2 * n)
+    (sp : SpreadFrom n ws c t W₀ W r) where
   -- a chain from c leads to x, as long as its mark tells
   marked : (x : ℕ) → x < 2 * n → 0 < mark n W x → (ks : List ℕ) × Chain ws c ks x × (mark n W x ≡ length ks + 1)
   marked x l p = ⊎_elim (λ (h : 0 < mark n W₀ x). absurd (omega (arith, clean x l))) (λ h. h) (sp.chain x l p)

@@ -3,7 +3,8 @@ use Rattle.std.specs.Prelude.{◌≡◌, List, ℕ, ◌+◌, ◌*◌, ◌≤◌,
 use Rattle.meaning.specs.Chains.{Step, Chain, Shortest}
 use Rattle.meaning.specs.Codes.{opposite}
 use Rattle.moves.specs.Layout.{mark, Apart}
-use Rattle.meaning.proofs.AreaLaws.{over_at}
+use Rattle.meaning.specs.Sizes.{over}
+use Rattle.moves.specs.Area.{Area, Same}
 
 -- no code of the n choices has a mark
 abbrev pub Unmarked : ℕ → List ℕ → Type 0
@@ -19,6 +20,10 @@ pub record Away (n : ℕ) (ws : List ℕ) (c : ℕ) (W : List ℕ) : Type 0 wher
 abbrev pub across : ℕ → List ℕ → List ℕ → ℕ → ℕ
 across n ws W e = mark n W (opposite (get_or ws (opposite e) 0))
 
+-- some rule leads from a to a code whose opposite has the mark d
+abbrev pub LeadsTo : Area → ℕ → ℕ → Type 0
+LeadsTo w a d = (k : ℕ) × (b : ℕ) × Step w.rules a k b × (mark w.n w.words (opposite b) ≡ d)
+
 -- k is the lowest rule that leads from a to a code whose opposite has the mark d
 pub record LowestTo (n : ℕ) (ws W : List ℕ) (a d k : ℕ) : Type 0 where
   pub next : ℕ
@@ -26,15 +31,16 @@ pub record LowestTo (n : ℕ) (ws W : List ℕ) (a d k : ℕ) : Type 0 where
   pub near : mark n W (opposite next) ≡ d
   pub lowest : (j b : ℕ) → j < k → Step ws a j b → mark n W (opposite b) ≡ d → ⊥
 
--- the chain that is named, from c to its opposite, is written from the place `at` on, and r is its length
-pub record Traced (ws : List ℕ) (c at : ℕ) (area area' : List ℕ) (r : ℕ) : Type 0 where
+-- the chain that is named, from c to its opposite, is written at the front of the area, and r is its length
+pub record Traced (ws : List ℕ) (c : ℕ) (area area' : List ℕ) (r : ℕ) : Type 0 where
   pub chain : List ℕ
   pub shortest : Shortest ws c (opposite c) chain
   pub counted : r ≡ length chain
-  pub written : area' ≡ over_at at chain area
+  pub written : area' ≡ over chain area
 
 -- and the work area is as it was, but for its trail
-pub record Chained (n : ℕ) (ws : List ℕ) (c at : ℕ) (W W' area area' : List ℕ) (r : ℕ) : Type 0 where
-  pub traced : Traced ws c at area area' r
-  pub apart : Apart n W W'
-  pub unmarked : Unmarked n W'
+pub record Chained (a : Area) (c : ℕ) (b : Area) (area area' : List ℕ) (r : ℕ) : Type 0 where
+  pub same : Same a b
+  pub traced : Traced a.rules c area area' r
+  pub apart : Apart a.n a.words b.words
+  pub unmarked : Unmarked a.n b.words

@@ -5,14 +5,13 @@ ghost use Rattle.meaning.specs.Sizes.{max_rules};
 
 use meaning::{Code, RuleNo};
 use moves::ends::code_at;
-use moves::layout::{narrow, wide};
 
 // The rule that has the end e.
 pub fn rule_of(e: usize) -> RuleNo
     requires { e / 2 < max_rules }
     ensures { result.0 ≡ e / 2 }
 {
-    RuleNo(narrow(e / 2))
+    RuleNo((e / 2) as u16)
 }
 
 // The code that the rule leads to from a.
@@ -20,10 +19,10 @@ pub fn follow(words: &[u16], a: Code, rule: RuleNo) -> Code
     requires { (b : ℕ) × Step words.now a.0 rule.0 b }
     ensures { Step words.now a.0 rule.0 result.0 }
 {
-    let e = 2 * wide(rule.0);
+    let e = 2 * usize::from(rule);
     let held = code_at(words, e);
     let other = code_at(words, e + 1);
-    if held.0 == a.opposite().0 {
+    if held == a.opposite() {
         return other;
     }
     held

@@ -3,20 +3,12 @@ use mathlib.Core.Path.{◌≡◌, refl, sym, ◌∙◌}
 use mathlib.Core.List.{List, [], ◌∷◌}
 use Prim.Native.Nat.{ℕ, ◌≤◌, ◌<◌}
 use Rattle.meaning.specs.declared.refusal.Refusal.{Refusal}
-use native.Mathlib.Omega.{arith}
-use lib.ListN.{length, get_or, take}
-use lib.Seq.{length-take-le, get_or-take}
+use lib.ListN.{length, take}
+use lib.Seq.{length-take-le}
 use borrow.Author.Tests.{lt-ltb, le-ltb}
 use Rattle.meaning.specs.Refusals.{number_of, place_of, Due, refused, as_due, Check, first_of, first_over, over_check, list_checks, list_due, next_due}
 use Rattle.meaning.specs.Sizes.{rota_needs}
-use Rattle.meaning.proofs.RefusalLaws.{none_applies, due_behind, due_ahead, first_over_lem, accepted}
-
--- the first byte over 1 among the first n, as a loop finds it
-pub front_over : (n : ℕ) (area : List ℕ) → n ≤ length area → (i : ℕ) → i ≤ n → ((j : ℕ) → j < i → get_or area j 0 < 2) → (i < n → 2 ≤ get_or area i 0) →
-    i ≡ first_over 2 (take n area)
-front_over n area fits i h low at =
-    let long : length (take n area) ≡ n = length-take-le n area fits in
-    sym (first_over_lem 2 (take n area) i (omega arith) (λ j l. rw (get_or-take n area j 0 (omega arith)) (low j l)) (λ l. rw (get_or-take n area i 0 (omega arith)) (at (omega arith))))
+use Rattle.meaning.proofs.RefusalLaws.{none_applies, due_behind, due_ahead, accepted}
 
 module _ (n : ℕ) (ws area : List ℕ) (work : ℕ) where
   abbrev common : List Check

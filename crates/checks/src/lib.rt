@@ -1,5 +1,4 @@
 // Which refusal is due, before anything is written. For the crates above only.
 #![tactic(auto)]
 
-pub mod refuse; // what every call on a list refuses
-pub mod values; // what Next refuses besides
+pub mod accept; // what every call on a list refuses, and what Next refuses besides

@@ -1,12 +1,13 @@
 -- What is read off from the leads: which choice is the lowest that clashes, and what is tied to each; and the state before the walk.
 use Prim.Native.Nat.{ℕ, ◌+◌, ◌*◌, ◌≤◌, ◌<◌}
-use mathlib.Core.Path.{◌≡◌, refl}
+use mathlib.Core.Path.{◌≡◌, refl, sym, ap, ◌∙◌}
 use mathlib.Core.Logic.{⊎_elim, ◌≢◌}
 use mathlib.Core.Bool.{true, false}
-use mathlib.Core.List.{List}
+use mathlib.Core.List.{List, ◌++◌}
 use native.Mathlib.Omega.{arith}
 use native.Mathlib.Numerals.{add-one}
-use lib.ListN.{length}
+use lib.ListN.{length, take, drop}
+use Rattle.std.proofs.lemmas.List.{length-take-le}
 use Rattle.components.specs.Leads.{lead_of, Leads, SomeClash, TiesPut}
 use Rattle.components.specs.Walk.{WalkState}
 use Rattle.meaning.specs.Chains.{Clash, LowestClash, Tied, Tie}
@@ -16,9 +17,9 @@ use Rattle.meaning.specs.Rules.{InRange}
 use Rattle.moves.specs.Layout.{mark}
 use Rattle.moves.specs.Lists.{Ready}
 use Rattle.components.proofs.Ways.{tied_flip, tied_join}
-use Rattle.meaning.proofs.AreaLaws.{Written, written_over}
+use Rattle.meaning.proofs.AreaLaws.{Written}
 use Rattle.meaning.proofs.CodeLaws.{opposite_below}
-use Rattle.meaning.proofs.General.{below_suc, build, length_build, get_or_build}
+use Rattle.meaning.proofs.General.{below_suc}
 use Rattle.meaning.proofs.TwoSat.{possible_or_clash}
 
 -- before the walk no code is met, and each cursor is the head of its list
@@ -104,16 +105,18 @@ abbrev pub tie_of : ℕ → List ℕ → ℕ → ℕ
 tie_of n W u = lead_of n W (late u)
 
 -- once they are written for all choices, they are the ties
-pub ties_put : {n v : ℕ} {W A A' : List ℕ} → v ≤ n → n ≤ v → n ≤ length A → Written v (tie_of n W) A A' → TiesPut n W A A'
-ties_put {n} {v} {W} {A} {A'} vn nv room w =
-    let e : v ≡ n = omega arith in
+pub ties_put : {n v : ℕ} {W A B : List ℕ} → n ≤ v → n ≤ length A → Written v (tie_of n W) (take n A) B → TiesPut n W A (B ++ drop n A)
+ties_put {n} {v} {W} {A} {B} nv room w =
     record {
-      items = build n (tie_of n W);
-      written = written_over n (tie_of n W) A A' room (rw e at w);
-      long = length_build n (tie_of n W);
+      items = B;
+      written = ap (λ (m : ℕ). B ++ drop m A) (sym long);
+      long = long;
       ties = λ ws h.
-          record { long = length_build n (tie_of n W); each = λ u l. rw (get_or_build n (tie_of n W) u l) (tie ws h u l) };
+          record { long = long; each = λ u l. rw (w.front u (omega arith)) (tie ws h u l) };
     }
   where
+    long : length B ≡ n
+    long = w.long ∙ length-take-le n A room
+
     tie : (ws : List ℕ) → Leads n ws W → (u : ℕ) → u < n → Tie ws u (tie_of n W u)
     tie ws h u l = let a = h.lead (late u) (omega arith) in record { tied = a.tied; smallest = a.smallest }

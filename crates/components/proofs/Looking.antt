@@ -1,19 +1,26 @@
--- The turns of the loops that look along a list or along the stack: `scan`, `least`, `settle`, `mirror` and `lone`.
+-- The turns of the loops that look along a list or along the stack: `scan`, `least`, `settle` and `lone`.
 use Prim.Native.Nat.{ℕ, ◌+◌, ◌-◌, ◌*◌, ◌/◌, ◌≤◌, ◌<◌}
 use mathlib.Core.Path.{◌≡◌, refl, sym, ap, ◌∙◌}
 use mathlib.Core.Logic.{◌⊎◌, inl, inr, ⊎_elim, ◌≢◌}
 use mathlib.Core.List.{List}
 use native.Mathlib.Omega.{arith}
+use mathlib.Core.Bool.{true, false}
+use Rattle.std.specs.Ordering.{is_lt, nat_cmp}
+use Rattle.std.proofs.lemmas.Bool.Decides.{nat_tests}
 use lib.ListN.{length, get_or, set}
 use Rattle.components.specs.Leads.{settled_rank}
-use Rattle.components.specs.Walk.{Ranked, PartClosed, Least, cursor, Old, Scanned, Stacked, Settled, opposites, Lone}
+use Rattle.components.specs.Walk.{Ranked, PartClosed, Least, cursor, Old, Scanned, Stacked, Settled, turned, opposites, Lone, Walking, retabled}
+use Rattle.components.specs.declared.settle.Side.{Side as Facing}
+use Rattle.components.specs.declared.settle.Side.TheVariants.{Own, Opposite}
 use Rattle.meaning.specs.Chains.{Step}
 use Rattle.meaning.specs.Codes.{opposite}
 use Rattle.moves.specs.Layout.{mark_at, mark, trail, next, Tables, Sizes}
 use Rattle.moves.specs.Lists.{Nexts, Cursor, Passed}
 use Rattle.components.proofs.Storing.{beyond_refl, beyond_trans, beyond_mark}
 use Rattle.meaning.proofs.CodeLaws.{opposite_below}
-use Rattle.meaning.proofs.General.{same?}
+use Rattle.meaning.proofs.General.{same?, below_or_from}
+use Rattle.std.specs.Prelude.{min}
+use Rattle.std.proofs.Math.Nat.{min-le_left, min-le_right, min-eq_left, min-eq_right}
 use Rattle.moves.proofs.Cursors.{cursor_next, cursor_passed}
 use Rattle.moves.proofs.Places.{mark_stored, mark_elsewhere}
 use Rattle.moves.proofs.Steps.{end_step, step_to}
@@ -92,28 +99,20 @@ scan_end {n} {ws} {W} {a} {low} {e} h z =
       end = λ u. refl;
     }
 
--- `least`: one place more
-pub least_one : (s : ℕ → ℕ) (d l : ℕ) → l ≡ s d → Least s d (d + 1) l
-least_one s d l e =
-    record {
-      at = (d, omega arith, omega arith, sym e);
-      less = λ p a b.
-          let q : p ≡ d = omega arith in
-          rw q (omega arith);
-    }
+-- the lesser of two numbers that are not 0 is not 0, is one of them, and is at most each
+pub least_of_two : (a b : ℕ) → 0 < a → 0 < b → (min a b ≤ a) × (0 < min a b) × ((min a b ≡ a) ⊎ (min a b ≡ b)) × (min a b ≤ b)
+least_of_two a b p q =
+    let one : (min a b ≡ a) ⊎ (min a b ≡ b) = ⊎_elim (λ (l : a < b). inl (min-eq_left (omega arith))) (λ (l : b ≤ a). inr (min-eq_right l)) (below_or_from a b) in
+    (min-le_left a b, ⊎_elim (λ (e : min a b ≡ a). omega (arith, e)) (λ (e : min a b ≡ b). omega (arith, e)) one, one, min-le_right a b)
 
--- and with one place more
-pub least_more : {s : ℕ → ℕ} {d p l l' : ℕ} → d ≤ p → Least s d p l → l' ≤ l → l' ≤ s p → (l' ≡ l) ⊎ (l' ≡ s p) → Least s d (p + 1) l'
-least_more {s} {d} {p} {l} {l'} dp h a b c =
-    record {
-      at = ⊎_elim
-          (λ (e : l' ≡ l). (h.at.0, h.at.1, omega (arith, h.at.2), h.at.3 ∙ sym e))
-          (λ (e : l' ≡ s p). (p, dp, omega arith, sym e))
-          c;
-      less = λ q u v. ⊎_elim (λ (e : q ≡ p). rw e b) (λ (e : q ≢ p). omega (arith, h.less q u (omega arith))) (same? q p);
-    }
+-- the test of two codes tells which is less
+pub less_by : (a b : ℕ) → is_lt (nat_cmp a b) ≡ true → a < b
+less_by a b e = grind (arith, nat_tests)
 
--- `settle` and `mirror`: one place more
+pub no_less_by : (a b : ℕ) → is_lt (nat_cmp a b) ≡ false → b ≤ a
+no_less_by a b e = grind (arith, nat_tests)
+
+-- `settle`: one place more
 pub settle_none : (n : ℕ) (g : ℕ → ℕ) (d v : ℕ) (W : List ℕ) → Settled n g d d v W W
 settle_none n g d v W = record { beyond = beyond_refl n W; new = λ p a b. absurd (omega arith); old = λ x l f. refl }
 
@@ -138,6 +137,15 @@ settle_more {n} {d} {p} {v} {x} {g} {W₀} {W} {W'} room dp lx here qw h =
 
     stored : mark n (set W (mark_at n x) v) x ≡ v
     stored = mark_stored n W x v lx fits
+
+-- two stores in a row
+pub retabled_more : (w : Walking) {u v : Walking} {T : List ℕ} → u ≡ retabled w u.tables → v ≡ retabled u T → v ≡ retabled w v.tables
+retabled_more w {u} {v} {T} p q = rw q (ap (λ (x : Walking). retabled x T) p)
+
+-- a code's opposite is a code too
+pub turned_below : (f : Facing) (n x : ℕ) → x < 2 * n → turned f x < 2 * n
+turned_below Own n x l = l
+turned_below Opposite n x l = opposite_below n x l
 
 -- the invariant of the loop of `lone`
 pub record Loning (n d t : ℕ) (W : List ℕ) (l p : ℕ) : Type 0 where

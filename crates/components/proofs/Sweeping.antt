@@ -5,16 +5,16 @@ use mathlib.Core.Logic.{⊎_elim, ◌≢◌}
 use mathlib.Core.List.{List}
 use native.Mathlib.Omega.{arith}
 use Rattle.components.specs.Leads.{Leads, Side}
-use Rattle.components.specs.Walk.{cursor, WalkState, TurnMade, Searched}
+use Rattle.components.specs.Walk.{cursor, WalkState, TurnMade, Searched, Walking, Alike, moved, stacked_on}
 use Rattle.meaning.specs.Codes.{opposite}
 use Rattle.moves.specs.Layout.{mark, trail, spare, Sizes}
 use Rattle.moves.specs.Lists.{Nexts}
-use Rattle.components.proofs.Storing.{Pushed}
+use Rattle.components.proofs.Storing.{Pushed, pushed_by}
 use Rattle.components.proofs.Walking.{alike, pushed}
 use Rattle.components.proofs.Ways.{words_of}
 use Rattle.meaning.proofs.CodeLaws.{opposite_below}
 use Rattle.meaning.proofs.General.{same?}
-use Rattle.moves.proofs.Places.{sizes_long}
+use Rattle.moves.proofs.Places.{sizes_long, tables}
 
 -- ---- the walks from one code and from all
 
@@ -57,6 +57,14 @@ search_push {n} {ws} {W} {W'} {root} sz h l z p = (
   omega (arith, p.rank),
 )
 
+-- the same, as `search` begins with an empty stack
+pub search_begin : {w u : Walking} {root : ℕ} → Sizes w.n w.words w.tables → WalkState w.n w.words w.tables 0 0 → w.top ≡ 0 → w.depth ≡ 0 → root < 2 * w.n → mark w.n w.tables root ≡ 0
+    → u ≡ moved w (stacked_on w.n w.tables root w.top w.depth) (w.top + 1) (w.depth + 1) → Alike w u × Searching w.n w.words root w.tables u.tables u.top u.depth
+search_begin {w} {u} {root} sz h t0 k0 l z q =
+    let b : WalkState w.n w.words (stacked_on w.n w.tables root 0 0) 1 1 × Side w.n w.tables (stacked_on w.n w.tables root 0 0) × ((x : ℕ) → x < 2 * w.n → 0 < mark w.n w.tables x → 0 < mark w.n (stacked_on w.n w.tables root 0 0) x) × (0 < mark w.n (stacked_on w.n w.tables root 0 0) root) =
+    search_push sz h l z (pushed_by l (omega arith) (omega arith) (tables sz) refl) in
+    rw (q, t0, k0) (record { n = refl; words = refl }, record { state = b.0; side = b.1; met = b.2; got = b.3 })
+
 -- a turn keeps it
 pub search_turn : {n : ℕ} {ws : List ℕ} {root : ℕ} {W₀ W : List ℕ} {t k : ℕ} {W' : List ℕ} {t' k' : ℕ}
     → root < 2 * n → Searching n ws root W₀ W t k → TurnMade n ws W t k W' t' k' → Searching n ws root W₀ W' t' k'
@@ -67,6 +75,11 @@ search_turn {n} {ws} {root} l s r =
       met = λ x u m. r.met x u (s.met x u m);
       got = r.met root l s.got;
     }
+
+-- the same, over walks
+pub search_more : {w u v : Walking} {root : ℕ} → root < 2 * w.n → Alike w u → Searching w.n w.words root w.tables u.tables u.top u.depth → Alike u v
+    → TurnMade u.n u.words u.tables u.top u.depth v.tables v.top v.depth → Alike w v × Searching w.n w.words root w.tables v.tables v.top v.depth
+search_more {w} {u} {v} {root} l a s b r = (record { n = b.n ∙ a.n; words = b.words ∙ a.words }, search_turn l s (rw (a.n, a.words) at r))
 
 -- at the end of the path the stack is empty too
 pub search_done : {n : ℕ} {ws : List ℕ} {root : ℕ} {E W₀ W : List ℕ} {t k : ℕ}
@@ -107,6 +120,20 @@ sweep_turn {n} {ws} {W₀} {W} {W'} {x} l s r =
       met = λ y u. ⊎_elim (λ (e : y ≡ x). rw e r.got) (λ (e : y ≢ x). r.met y (omega arith) (s.met y (omega arith))) (same? y x);
       within = omega arith;
     }
+
+-- the same, over a walk that is in no code
+pub record Sweeps (m : ℕ) (ws W : List ℕ) (w : Walking) (x : ℕ) : Type 0 where
+  pub n : w.n ≡ m
+  pub words : w.words ≡ ws
+  pub top : w.top ≡ 0
+  pub depth : w.depth ≡ 0
+  pub sweeping : Sweeping m ws W w.tables x
+
+-- a walk from one code keeps it
+pub sweeps_turn : {n : ℕ} {ws W : List ℕ} {u v : Walking} {x : ℕ} → x < 2 * n → Sweeps n ws W u x → Alike u v → v.top ≡ 0 → v.depth ≡ 0
+    → Searched u.n u.words x u.tables v.tables → Sweeps n ws W v (x + 1)
+sweeps_turn {n} {ws} {W} {u} {v} {x} l s a t k r =
+    record { n = a.n ∙ s.n; words = a.words ∙ s.words; top = t; depth = k; sweeping = sweep_turn l s.sweeping (rw (s.n, s.words) at r) }
 
 -- at the end every code is settled
 pub sweep_done : {n : ℕ} {ws W₀ W : List ℕ} {x : ℕ} → Sweeping n ws W₀ W x → 2 * n ≤ x → Leads n ws W

@@ -6,20 +6,20 @@ use mathlib.Core.List.{List}
 use native.Mathlib.Omega.{arith}
 use lib.ListN.{length, get_or}
 use Rattle.components.specs.Leads.{Lead, Side}
-use Rattle.components.specs.Walk.{Ranked, PartClosed, Least, cursor, Accounted, Dfs, WalkState, Old, Scanned, Stacked, Beyond, Settled, opposites, Lifted, TurnMade}
+use Rattle.components.specs.Walk.{Ranked, PartClosed, Least, cursor, Accounted, Dfs, WalkState, Old, Scanned, Stacked, Beyond, Settled, opposites, Lifted, TurnMade, Walking, Alike, moved, noted}
 use Rattle.meaning.specs.Chains.{Step, Reach, Tied}
 use Rattle.meaning.specs.Codes.{opposite}
 use Rattle.moves.specs.Layout.{mark, trail, spare, next, Tables, Sizes}
 use Rattle.moves.specs.Lists.{Cursor}
 use Rattle.components.proofs.Settling.{alive, exact, round, collected, lives, mirrored}
-use Rattle.components.proofs.Storing.{beyond_refl, beyond_mark, Noted, Pushed}
+use Rattle.components.proofs.Storing.{beyond_refl, beyond_mark, Noted, noted_at, Pushed}
 use Rattle.components.proofs.Walking.{alike, fits, deep, lowered, advanced, pushed, dropped}
 use Rattle.components.proofs.Ways.{join, once, turned_from, turned_to, words_of, step_lt}
 use Rattle.meaning.proofs.ChainLaws.{reach_flip}
 use Rattle.meaning.proofs.CodeLaws.{opposite_opposite, opposite_below}
 use Rattle.meaning.proofs.General.{same?, below_or_from}
 use Rattle.moves.proofs.Counts.{count_le, count_lt, count_more, count_mono}
-use Rattle.moves.proofs.Places.{mark_stored, mark_elsewhere}
+use Rattle.moves.proofs.Places.{tables, mark_stored, mark_elsewhere}
 
 -- the end of a path of k places, and the code that stands there
 abbrev pub last_place : ℕ → List ℕ → ℕ → ℕ
@@ -317,7 +317,7 @@ module _ {n : ℕ} {ws W : List ℕ} {t k : ℕ} (sz : Sizes n ws W) (pk : 0 < k
 
       -- they are
       module _ (z : 0 < cl.mirrored) where
-        -- what `lone` found and `mirror` stored, said of the noted area
+        -- what `lone` found and `settle` stored, said of the noted area
         mirror_settled : Settled n (opposites n cl.mid) (last_place n W₁ k) t (2 * n + cl.mirrored) cl.mid W₅
         mirror_settled = rw same_place (cl.mirrors z)
 
@@ -504,3 +504,38 @@ module _ {n : ℕ} {ws W : List ℕ} {t k : ℕ} (sz : Sizes n ws W) (pk : 0 < k
       -- the turn that goes back up
       pub turn_drop : TurnMade n ws W t k W₄ t (k - 1)
       turn_drop = ⊎_elim (λ (u : low < mark n W₁ b). turn_fall u) (λ (u : mark n W₁ b ≤ low). turn_same u) (below_or_from low (mark n W₁ b))
+
+-- what `turn` knows after its look: where the path ends, what was found there, and that the list and the counts stay
+pub record Looked (w u : Walking) (place a e low hit : ℕ) : Type 0 where
+  pub n : u.n ≡ w.n
+  pub words : u.words ≡ w.words
+  pub top : u.top ≡ w.top
+  pub depth : u.depth ≡ w.depth
+  pub end : Last w.n w.tables w.top w.depth
+  pub at : place ≡ last_place w.n w.tables w.depth
+  pub code : a ≡ last_code w.n w.tables w.depth
+  pub found : Scanned w.n w.words w.tables (last_code w.n w.tables w.depth) e low hit
+  pub noted : Noted w.n (last_code w.n w.tables w.depth) e low w.tables u.tables
+
+-- that is what the look and the note leave
+pub looked : {w u : Walking} {place a e low hit : ℕ} → Sizes w.n w.words w.tables → 0 < w.depth → WalkState w.n w.words w.tables w.top w.depth
+    → place ≡ last_place w.n w.tables w.depth → a ≡ trail w.n w.tables place → Scanned w.n w.words w.tables a e low hit
+    → u ≡ moved w (noted w.n w.tables a e low) w.top w.depth → Looked w u place a e low hit
+looked {w} {u} {place} {a} {e} {low} {hit} sz pk h at of f q =
+    let code : a ≡ last_code w.n w.tables w.depth = of ∙ ap (trail w.n w.tables) at in
+    let end : Last w.n w.tables w.top w.depth = last_of sz pk h in
+    record {
+      n = ap (λ (x : Walking). x.n) q;
+      words = ap (λ (x : Walking). x.words) q;
+      top = ap (λ (x : Walking). x.top) q;
+      depth = ap (λ (x : Walking). x.depth) q;
+      end = end;
+      at = at;
+      code = code;
+      found = rw code at f;
+      noted = noted_at code (omega (arith, code, end.code)) (tables sz) (ap (λ (x : Walking). x.tables) q);
+    }
+
+-- what changes the tables and the counts leaves the list
+pub alike_by : (w u : Walking) {v : Walking} {T : List ℕ} {t k : ℕ} → u.n ≡ w.n → u.words ≡ w.words → v ≡ moved u T t k → Alike w v
+alike_by w u a b q = rw q (record { n = a; words = b })

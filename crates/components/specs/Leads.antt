@@ -17,6 +17,11 @@ settled_rank n l = 2 * n + 1 + l
 abbrev pub lead_of : ℕ → List ℕ → ℕ → ℕ
 lead_of n W x = mark n W x - (2 * n + 1)
 
+-- the tables of n choices
+pub record Marked : Type 0 where
+  pub n : ℕ
+  pub tables : List ℕ
+
 -- every code is settled
 abbrev pub AllSettled : ℕ → List ℕ → Type 0
 AllSettled n W = (x : ℕ) → x < 2 * n → 2 * n < mark n W x

@@ -1,14 +1,16 @@
 -- The state of the walk that finds the components, and what its moves do. The walk is Tarjan's, with one rank a code: 0 where the code is not met yet; on the stack 1 more than a place that the code
 -- reaches, at most its own; over 2n where the code is settled. The ranks stand in the marks, the stack in the trail, and the path, as places of the stack, in the spare table; a code's cursor is the head of the list of its opposite.
-use Rattle.std.specs.Prelude.{◌≡◌, ◌⊎◌, ◌≢◌, List, ℕ, ◌+◌, ◌-◌, ◌*◌, ◌≤◌, ◌<◌, length, get_or, set}
+use Rattle.std.specs.Prelude.{◌≡◌, ◌⊎◌, ◌≢◌, Option, Some, None, List, ℕ, ◌+◌, ◌-◌, ◌*◌, ◌≤◌, ◌<◌, length, get_or, set}
 use Rattle.meaning.specs.Chains.{Step, Reach, Tied}
 use Rattle.meaning.specs.Codes.{opposite}
-use Rattle.moves.specs.Layout.{head, mark, trail, spare, next, head_at, mark_at, trail_at, spare_at}
-use Rattle.moves.specs.Lists.{FirstEnd, Cursor, Passed}
+use Rattle.meaning.specs.Sizes.{max_choices}
+use Rattle.moves.specs.Layout.{Tables, Sizes, head, mark, trail, spare, next, head_at, mark_at, trail_at, spare_at}
+use Rattle.moves.specs.Lists.{FirstEnd, Nexts, Cursor, Passed}
 use Rattle.moves.specs.Walks.{count_of}
 use Rattle.components.specs.Leads.{Lead, Side, settled_rank}
-use Rattle.components.specs.declared.scan.Unmet.{Unmet}
-use Rattle.components.specs.declared.scan.Unmet.TheVariants.{At, Nothing}
+use Rattle.components.specs.declared.settle.Side.{Side as Facing}
+use Rattle.components.specs.declared.settle.Side.TheVariants.{Own, Opposite}
+use Rattle.meaning.specs.declared.codes.Code.{Code}
 
 -- the place of a code's cursor, and what stands there: 1 more than the end where its list goes on, or 0
 abbrev pub cursor_at : ℕ → ℕ → ℕ
@@ -16,6 +18,35 @@ cursor_at n x = head_at n (opposite x)
 
 abbrev pub cursor : ℕ → List ℕ → ℕ → ℕ
 cursor n W x = head n W (opposite x)
+
+-- a walk: the list, the tables, and how many codes stand on the stack and how many places on the path
+pub record Walking : Type 0 where
+  pub n : ℕ
+  pub words : List ℕ
+  pub tables : List ℕ
+  pub top : ℕ
+  pub depth : ℕ
+
+-- the tables of n choices fit
+abbrev pub Room : ℕ → List ℕ → Type 0
+Room n T = (n ≤ max_choices) × Tables n T
+
+-- with other tables and counts
+abbrev pub moved : Walking → List ℕ → ℕ → ℕ → Walking
+moved w T t k = record { n = w.n; words = w.words; tables = T; top = t; depth = k }
+
+-- with other tables
+abbrev pub retabled : Walking → List ℕ → Walking
+retabled w T = moved w T w.top w.depth
+
+-- the list stays
+pub record Alike (w w' : Walking) : Type 0 where
+  pub n : w'.n ≡ w.n
+  pub words : w'.words ≡ w.words
+
+-- x has the rank v
+abbrev pub reranked : Walking → ℕ → ℕ → Walking
+reranked w x v = moved w (set w.tables (mark_at w.n x) v) w.top w.depth
 
 -- place p of the stack lies in the part that starts at place d j of the path
 pub record In (d : ℕ → ℕ) (t k j p : ℕ) : Type 0 where
@@ -70,6 +101,15 @@ pub record Dfs (N : ℕ) (ws : List ℕ) (r s d cu : ℕ → ℕ) (t k : ℕ) : 
 abbrev pub WalkState : ℕ → List ℕ → List ℕ → ℕ → ℕ → Type 0
 WalkState n ws W t k = Dfs (2 * n) ws (mark n W) (trail n W) (spare n W) (cursor n W) t k
 
+-- the same of a walk
+abbrev pub Running : Walking → Type 0
+Running w = WalkState w.n w.words w.tables w.top w.depth
+
+-- an accepted list, and the rests of its codes' lists in tables that are long enough
+pub record Linked (w : Walking) : Type 0 where
+  pub sizes : Sizes w.n w.words w.tables
+  pub nexts : Nexts w.n w.words w.tables
+
 -- an end of the list of a was taken into account before
 abbrev pub Old : ℕ → List ℕ → ℕ → ℕ → Type 0
 Old n W a i = Passed (cursor n W a) i
@@ -79,9 +119,9 @@ abbrev pub Ranked : ℕ → List ℕ → ℕ → ℕ → Type 0
 Ranked n W low z = (0 < mark n W z) × (low ≤ mark n W z)
 
 -- 1 more than the code that was not met yet, or 0 where there is none
-abbrev pub or_zero : Unmet → ℕ
-or_zero (At z) = z.0 + 1
-or_zero Nothing = 0
+abbrev pub or_zero : Option Code → ℕ
+or_zero (Some z) = z.0 + 1
+or_zero None = 0
 
 -- what a look along the list of a finds: the cursor e where it stopped, the lowest rank met, and 1 more than a code not met yet, or 0
 pub record Scanned (n : ℕ) (ws W : List ℕ) (a e low hit : ℕ) : Type 0 where
@@ -117,6 +157,14 @@ pub record Settled (n : ℕ) (g : ℕ → ℕ) (d t v : ℕ) (W W' : List ℕ) :
   pub beyond : Beyond n W W'
   pub new : (p : ℕ) → d ≤ p → p < t → mark n W' (g p) ≡ v
   pub old : (x : ℕ) → x < 2 * n → ((p : ℕ) → d ≤ p → p < t → g p ≢ x) → mark n W' x ≡ mark n W x
+
+-- a code, or its opposite; and the codes on the stack, or their opposites
+abbrev pub turned : Facing → ℕ → ℕ
+turned Own x = x
+turned Opposite x = opposite x
+
+abbrev pub codes_of : Facing → ℕ → List ℕ → ℕ → ℕ
+codes_of f n W p = turned f (trail n W p)
 
 -- the opposites of the codes on the stack
 abbrev pub opposites : ℕ → List ℕ → ℕ → ℕ
@@ -168,3 +216,21 @@ pub record Searched (n : ℕ) (ws : List ℕ) (root : ℕ) (W W' : List ℕ) : T
   pub side : Side n W W'
   pub met : (x : ℕ) → x < 2 * n → 0 < mark n W x → 0 < mark n W' x
   pub got : 0 < mark n W' root
+
+-- The same of the whole walk.
+
+-- a turn
+pub record Turns (w u : Walking) : Type 0 where
+  pub alike : Alike w u
+  pub made : TurnMade w.n w.words w.tables w.top w.depth u.tables u.top u.depth
+
+-- a walk from root to its end
+pub record Searches (w : Walking) (root : ℕ) (u : Walking) : Type 0 where
+  pub alike : Alike w u
+  pub empty : (u.top ≡ 0) × (u.depth ≡ 0)
+  pub searched : Searched w.n w.words root w.tables u.tables
+
+-- the codes on the stack from place d on are settled
+pub record Closes (w : Walking) (d : ℕ) (u : Walking) : Type 0 where
+  pub retabled : u ≡ retabled w u.tables
+  pub closed : PartClosed w.n d w.top w.tables u.tables

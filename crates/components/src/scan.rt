@@ -1,58 +1,47 @@
 // A look along a code's list: it stops at the first code not met yet, where the walk goes down, and notes the lowest rank on
 // the way. What it passed is never looked at again, so all looks together cost one pass over the rules.
 ghost use Rattle.std.specs.Prelude.{◌*◌, ◌<◌};
-ghost use Rattle.moves.specs.Layout.{Sizes, mark};
-ghost use Rattle.moves.specs.Lists.{Nexts, Cursor};
-ghost use Rattle.components.specs.Walk.{cursor, or_zero, Scanned};
+ghost use Rattle.moves.specs.Layout.{mark};
+ghost use Rattle.moves.specs.Lists.{Cursor};
+ghost use Rattle.components.specs.Walk.{cursor, or_zero, Linked, Scanned};
 
-use crate::tables::{cursor_of, rank_of};
+use crate::tables::Walk;
 use meaning::Code;
-use moves::ends::{code_at, other_end};
-use moves::layout::next_of;
 
-// A code that was not met yet, if there is one.
-#[derive(Clone, Copy)]
-pub enum Unmet {
-    At(Code),
-    Nothing,
-}
-
-// Where the list goes on, the lowest rank met, and where the walk goes down.
-#[derive(Clone, Copy)]
-pub struct Found {
+// Where the list goes on, the lowest rank met, and the code not met yet where the walk goes down.
+#[derive(Clone, Copy, Debug, PartialEq, Eq)]
+pub(crate) struct Found {
     pub cursor: usize,
     pub low: usize,
-    pub down: Unmet,
+    pub down: Option<Code>,
 }
 
-pub fn scan(n: usize, words: &[u16], work: &[u16], a: Code) -> Found
-    requires sizes { Sizes n words.now work.now }
-    requires nexts { Nexts n words.now work.now }
-    requires a_bound { (a.0 < 2 * n) × (0 < mark n work.now a.0) × Cursor words.now a.0 (cursor n work.now a.0) }
-    ensures { Scanned n words.now work.now a.0 result.cursor result.low (or_zero result.down) }
-{
-    let source = a.0;
-    let mut low = rank_of(n, work, Code(source));
-    let mut e = cursor_of(n, work, Code(source));
-    while 0 < e {
-        let k = e - 1;
-        let z = code_at(words, other_end(k));
-        let r = rank_of(n, work, z);
-        e = next_of(n, work, k);
-        if r == 0 {
-            return Found {
-                cursor: e,
-                low,
-                down: Unmet::At(z),
-            };
+impl Walk<'_> {
+    pub(crate) fn scan(&self, a: Code) -> Found
+        requires linked { Linked self.now }
+        requires a_bound { (a.0 < 2 * self.now.n) × (0 < mark self.now.n self.now.tables a.0) × Cursor self.now.words a.0 (cursor self.now.n self.now.tables a.0) }
+        ensures { Scanned self.now.n self.now.words self.now.tables a.0 result.cursor result.low (or_zero result.down) }
+    {
+        let mut low = self.rank_of(a);
+        // The cursor is kept as it is stored, a link of the list: so no `for`.
+        let mut e = self.cursor_of(a);
+        while let Some(end) = e.checked_sub(1) {
+            let z = self.led_to(end);
+            let r = self.rank_of(z);
+            e = self.end_after(end);
+            if r == 0 {
+                return Found {
+                    cursor: e,
+                    low,
+                    down: Some(z),
+                };
+            }
+            low = low.min(r);
         }
-        if r < low {
-            low = r;
+        Found {
+            cursor: 0,
+            low,
+            down: None,
         }
-    }
-    Found {
-        cursor: 0,
-        low,
-        down: Unmet::Nothing,
     }
 }

@@ -1,88 +1,85 @@
 // A component is found: the codes on the stack from a place on. Each gets for its rank 2n + 1 more than the smallest of them.
 // Chains turn round, so the opposites are a component too. Where none of them was met yet they are settled here, unwalked, which
 // nearly halves the work.
-ghost use Rattle.std.specs.Prelude.{◌*◌, ◌≤◌, ◌<◌};
-ghost use Rattle.meaning.specs.Sizes.{max_choices};
-ghost use Rattle.moves.specs.Layout.{Tables, trail};
-ghost use Rattle.components.specs.Walk.{Stacked, Least, Settled, opposites, or_zero, Lone, PartClosed};
+ghost use Rattle.std.specs.Prelude.{◌≡◌, ◌*◌, ◌≤◌, ◌<◌};
+ghost use Rattle.moves.specs.Layout.{trail};
+ghost use Rattle.components.specs.Leads.{settled_rank};
+ghost use Rattle.components.specs.Walk.{Stacked, Least, Settled, codes_of, turned, or_zero, Lone, Closes, retabled};
 
-use crate::scan::Unmet;
-use crate::tables::{set_rank, settled_rank};
+use crate::tables::Walk;
 use meaning::Code;
-use moves::layout::{mark_of, trail_code};
 
-// The smallest of the codes on the stack between two places.
-fn least(n: usize, work: &[u16], from: usize, top: usize) -> Code
-    requires { (from < top) × (top ≤ 2 * n) × Tables n work.now }
-    ensures { Least (trail n work.now) from top result.0 }
-{
-    let mut l = trail_code(n, work, from).0;
-    let mut p = from + 1;
-    while p < top {
-        let x = trail_code(n, work, p).0;
-        if x < l {
-            l = x;
+// The codes of a component as they stand on the stack, or their opposites.
+#[derive(Clone, Copy, Debug, PartialEq, Eq)]
+pub enum Side {
+    Own,
+    Opposite,
+}
+
+impl Side {
+    fn of(self, x: Code) -> Code
+        ensures { result.0 ≡ turned self x.0 }
+    {
+        match self {
+            Side::Own => x,
+            Side::Opposite => x.opposite(),
         }
-        p += 1;
-    }
-    Code(l)
-}
-
-// These codes get the rank v.
-fn settle(n: usize, work: &mut [u16], from: usize, top: usize, v: usize)
-    requires { (from ≤ top) × (v < 65536) × Tables n work.old × Stacked n work.old top }
-    ensures { Settled n (trail n work.old) from top v work.old work.new }
-{
-    let mut p = from;
-    while p < top {
-        let x = trail_code(n, work, p);
-        set_rank(n, work, x, v);
-        p += 1;
     }
 }
 
-// The smallest of their opposites, where none of these was met yet.
-fn lone(n: usize, work: &[u16], from: usize, top: usize) -> Unmet
-    requires { (n ≤ max_choices) × (from < top) × Tables n work.now × Stacked n work.now top }
-    ensures { Lone n from top work.now (or_zero result) }
-{
-    let mut l = trail_code(n, work, from).opposite().0;
-    let mut p = from;
-    while p < top {
-        let y = trail_code(n, work, p).opposite();
-        if mark_of(n, work, y) != 0 {
-            return Unmet::Nothing;
+impl Walk<'_> {
+    // The smallest of the codes on the stack from a place on.
+    fn least(&self, from: usize) -> Code
+        requires { (from < self.now.top) × (self.now.top ≤ 2 * self.now.n) }
+        ensures { Least (trail self.now.n self.now.tables) from self.now.top result.0 }
+    {
+        let top = self.top();
+        let mut l = self.stacked(from);
+        for p in from + 1..top {
+            l = l.min(self.stacked(p));
         }
-        if y.0 < l {
-            l = y.0;
+        l
+    }
+
+    // The smallest of their opposites, where none of these was met yet. It is no `least` of the other side: one function for
+    // both would have to say in its clause what either says.
+    fn lone(&self, from: usize) -> Option<Code>
+        requires { (from < self.now.top) × Stacked self.now.n self.now.tables self.now.top }
+        ensures { Lone self.now.n from self.now.top self.now.tables (or_zero result) }
+    {
+        let mut l = self.stacked(from).opposite();
+        for p in from..self.top() {
+            let y = self.stacked(p).opposite();
+            if self.rank_of(y) != 0 {
+                return None;
+            }
+            l = l.min(y);
         }
-        p += 1;
+        Some(l)
     }
-    Unmet::At(Code(l))
-}
 
-// The opposites get the rank v.
-fn mirror(n: usize, work: &mut [u16], from: usize, top: usize, v: usize)
-    requires { (from ≤ top) × (v < 65536) × Tables n work.old × Stacked n work.old top }
-    ensures { Settled n (opposites n work.old) from top v work.old work.new }
-{
-    let mut p = from;
-    while p < top {
-        let y = trail_code(n, work, p).opposite();
-        set_rank(n, work, y, v);
-        p += 1;
+    // The codes of this side get the rank that names their smallest.
+    fn settle(&mut self, side: Side, from: usize, lead: Code)
+        requires { (from ≤ self.old.top) × (lead.0 < 2 * self.old.n) × Stacked self.old.n self.old.tables self.old.top }
+        ensures retabled { self.new ≡ retabled self.old self.new.tables }
+        ensures settled { Settled self.old.n (codes_of side self.old.n self.old.tables) from self.old.top (settled_rank self.old.n lead.0) self.old.tables self.new.tables }
+    {
+        let rank = self.settled_rank(lead);
+        for p in from..self.top() {
+            let x = side.of(self.stacked(p));
+            self.set_rank(x, rank);
+        }
     }
-}
 
-// The codes between the two places are a component, and so are their opposites.
-pub fn close(n: usize, work: &mut [u16], from: usize, top: usize)
-    requires { (n ≤ max_choices) × (from < top) × Tables n work.old × Stacked n work.old top }
-    ensures { PartClosed n from top work.old work.new }
-{
-    let l = least(n, work, from, top);
-    settle(n, work, from, top, settled_rank(n, l));
-    let o = lone(n, work, from, top);
-    if let Unmet::At(m) = o {
-        mirror(n, work, from, top, settled_rank(n, m));
+    // The codes on the stack from this place on are a component, and so are their opposites.
+    pub(crate) fn close(&mut self, from: usize)
+        requires { (from < self.old.top) × Stacked self.old.n self.old.tables self.old.top }
+        ensures { Closes self.old from self.new }
+    {
+        let l = self.least(from);
+        self.settle(Side::Own, from, l);
+        if let Some(m) = self.lone(from) {
+            self.settle(Side::Opposite, from, m);
+        }
     }
 }

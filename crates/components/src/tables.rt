@@ -1,64 +1,182 @@
 // The walk's own names for the tables of the work area. Ranks stand in the marks, and the stack in the trail. The path is the
 // spare table: each of its places holds a place of the stack. A code's cursor is the head of the list of its opposite, whose
-// ends lead on from the code: the walk uses the heads up, so that it needs no cursors besides.
-ghost use Rattle.std.specs.Prelude.{◌≡◌, ◌*◌, ◌≤◌, ◌<◌, set};
+// ends lead on from the code: the walk uses the heads up, so that it needs no cursors besides. Each store has an exact contract:
+// what it means for the walk is said over the ranks, the stack, the path and the cursors as functions, and never sees a store.
+ghost use Rattle.std.specs.Prelude.{◌≡◌, ℕ, ◌+◌, ◌-◌, ◌*◌, ◌≤◌, ◌<◌, length, get_or};
+ghost use Rattle.meaning.specs.Codes.{opposite};
 ghost use Rattle.meaning.specs.Sizes.{max_choices};
-ghost use Rattle.moves.specs.Layout.{Tables, mark_at, spare_at, mark, spare};
-ghost use Rattle.components.specs.Walk.{cursor_at, cursor};
+ghost use Rattle.moves.specs.Layout.{Tables, mark, trail, spare, next, next_at};
+ghost use Rattle.components.specs.Walk.{cursor, Room, moved, reranked, noted, stacked_on};
 ghost use Rattle.components.specs.Leads.{settled_rank};
 
+use crate::ties::Ranks;
 use meaning::Code;
-use moves::layout::{head_of, mark_of, narrow, set_head, set_mark, set_spare, spare_of, wide};
+use moves::ends::{code_at, other_end};
+use moves::layout::{
+    head_of, mark_of, next_of, set_head, set_mark, set_spare, set_trail, spare_of, trail_code,
+};
+use std::marker::Model;
 
-// 0 where x is not met yet, and over 2n where it is settled.
-pub fn rank_of(n: usize, work: &[u16], x: Code) -> usize
-    requires { (x.0 < 2 * n) × Tables n work.now }
-    ensures { result ≡ mark n work.now x.0 }
-{
-    wide(mark_of(n, work, x))
+// The list, the lent area, and how many codes stand on the stack and how many of its places on the path.
+#[derive(Drop)]
+pub(crate) struct Walk<'a> {
+    n: usize,
+    words: &'a [u16],
+    tables: &'a mut [u16],
+    top: usize,
+    depth: usize,
+}
+
+impl<'a> Model for Walk<'a> {
+    ghost use Rattle.components.specs.Walk.{Walking, Room};
+
+    ghost Value = { Walking };
+
+    ghost view = { λ w. record { n = w.n; words = w.words.now; tables = w.tables.now; top = w.top; depth = w.depth } };
+
+    ghost invariant = { λ w. Room w.n w.tables.now };
 }
 
 // The rank of a settled code whose component has this smallest code.
-pub fn settled_rank(n: usize, lead: Code) -> usize
+pub(crate) fn settled_rank(n: usize, lead: Code) -> usize
     requires { n ≤ max_choices }
     ensures { result ≡ settled_rank n lead.0 }
 {
-    2 * n + 1 + wide(lead.0)
+    2 * n + 1 + usize::from(lead)
 }
 
-pub fn set_rank(n: usize, work: &mut [u16], x: Code, v: usize)
-    requires { (x.0 < 2 * n) × (v < 65536) × Tables n work.old }
-    ensures { work.new ≡ set work.old (mark_at n x.0) v }
-{
-    set_mark(n, work, x, narrow(v));
-}
+impl<'a> Walk<'a> {
+    pub(crate) fn new(n: usize, words: &'a [u16], tables: &'a mut [u16]) -> Walk<'a>
+        requires { (n ≤ max_choices) × Tables n tables.old }
+        ensures { result ≡ record { n = n; words = words.now; tables = tables.old; top = 0; depth = 0 } }
+    {
+        Walk {
+            n,
+            words,
+            tables,
+            top: 0,
+            depth: 0,
+        }
+    }
 
-// The stack place at place j of the path.
-pub fn path_of(n: usize, work: &[u16], j: usize) -> usize
-    requires { (j < 2 * n) × (j < 65536) × Tables n work.now }
-    ensures { result ≡ spare n work.now j }
-{
-    wide(spare_of(n, work, Code(narrow(j))))
-}
+    // The ranks are handed on at the end.
+    pub(crate) fn ranks(self) -> Ranks<'a>
+        ensures { result ≡ record { n = self.entry.n; tables = self.entry.tables } }
+    {
+        let tables = self.tables;
+        Ranks::new(self.n, tables)
+    }
 
-pub fn set_path(n: usize, work: &mut [u16], j: usize, p: usize)
-    requires { (j < 2 * n) × (j < 65536) × (p < 65536) × Tables n work.old }
-    ensures { work.new ≡ set work.old (spare_at n j) p }
-{
-    set_spare(n, work, Code(narrow(j)), narrow(p));
-}
+    // How many codes stand on the stack.
+    pub(crate) fn top(&self) -> usize
+        ensures top { result ≡ self.now.top }
+        ensures room { Room self.now.n self.now.tables }
+    {
+        self.top
+    }
 
-// One more than the end where the list of a goes on, or 0.
-pub fn cursor_of(n: usize, work: &[u16], a: Code) -> usize
-    requires { (a.0 < 2 * n) × Tables n work.now }
-    ensures { result ≡ cursor n work.now a.0 }
-{
-    head_of(n, work, a.opposite())
-}
+    // How many places of the stack stand on the path.
+    pub(crate) fn depth(&self) -> usize
+        ensures { result ≡ self.now.depth }
+    {
+        self.depth
+    }
 
-pub fn set_cursor(n: usize, work: &mut [u16], a: Code, e: usize)
-    requires { (a.0 < 2 * n) × (e < 65536) × Tables n work.old }
-    ensures { work.new ≡ set work.old (cursor_at n a.0) e }
-{
-    set_head(n, work, a.opposite(), narrow(e));
+    // The same for this walk's choices; it fits a word.
+    pub(crate) fn settled_rank(&self, lead: Code) -> usize
+        requires { lead.0 < 2 * self.now.n }
+        ensures { (result ≡ settled_rank self.now.n lead.0) × (result < 65536) }
+    {
+        settled_rank(self.n, lead)
+    }
+
+    // 0 where x is not met yet, and over 2n where it is settled.
+    pub(crate) fn rank_of(&self, x: Code) -> usize
+        requires { x.0 < 2 * self.now.n }
+        ensures { result ≡ mark self.now.n self.now.tables x.0 }
+    {
+        usize::from(mark_of(self.n, self.tables, x))
+    }
+
+    pub(crate) fn set_rank(&mut self, x: Code, v: usize)
+        requires { (x.0 < 2 * self.old.n) × (v < 65536) }
+        ensures { self.new ≡ reranked self.old x.0 v }
+    {
+        set_mark(self.n, self.tables, x, v as u16);
+    }
+
+    // The code at place p of the stack.
+    pub(crate) fn stacked(&self, p: usize) -> Code
+        requires { p < 2 * self.now.n }
+        ensures { result.0 ≡ trail self.now.n self.now.tables p }
+    {
+        trail_code(self.n, self.tables, p)
+    }
+
+    // The place of the stack that stands this far before the end of the path.
+    pub(crate) fn path_end(&self, back: usize) -> usize
+        requires { (0 < back) × (back ≤ self.now.depth) × (self.now.depth ≤ 2 * self.now.n) }
+        ensures { result ≡ spare self.now.n self.now.tables (self.now.depth - back) }
+    {
+        usize::from(spare_of(self.n, self.tables, Code((self.depth - back) as u16)))
+    }
+
+    // One more than the end where the list of a goes on, or 0.
+    pub(crate) fn cursor_of(&self, a: Code) -> usize
+        requires { a.0 < 2 * self.now.n }
+        ensures { result ≡ cursor self.now.n self.now.tables a.0 }
+    {
+        head_of(self.n, self.tables, a.opposite())
+    }
+
+    // The code that the end e of a list leads to.
+    pub(crate) fn led_to(&self, e: usize) -> Code
+        requires { opposite e < length self.now.words }
+        ensures { result.0 ≡ get_or self.now.words (opposite e) 0 }
+    {
+        code_at(self.words, other_end(e))
+    }
+
+    // One more than the end after e, or 0.
+    pub(crate) fn end_after(&self, e: usize) -> usize
+        requires { next_at self.now.n e < length self.now.tables }
+        ensures { result ≡ next self.now.n self.now.tables e }
+    {
+        next_of(self.n, self.tables, e)
+    }
+
+    // The cursor and the rank of a.
+    pub(crate) fn note(&mut self, a: Code, cursor: usize, low: usize)
+        requires { (a.0 < 2 * self.old.n) × (cursor < 65536) × (low < 65536) }
+        ensures { self.new ≡ moved self.old (noted self.old.n self.old.tables a.0 cursor low) self.old.top self.old.depth }
+    {
+        set_head(self.n, self.tables, a.opposite(), cursor as u16);
+        set_mark(self.n, self.tables, a, low as u16);
+    }
+
+    // Puts z on the stack and on the path.
+    pub(crate) fn push(&mut self, z: Code)
+        requires { (z.0 < 2 * self.old.n) × (self.old.top < 2 * self.old.n) × (self.old.depth < 2 * self.old.n) }
+        ensures { self.new ≡ moved self.old (stacked_on self.old.n self.old.tables z.0 self.old.top self.old.depth) (self.old.top + 1) (self.old.depth + 1) }
+    {
+        set_trail(self.n, self.tables, self.top, z);
+        set_spare(
+            self.n,
+            self.tables,
+            Code(self.depth as u16),
+            self.top as u16,
+        );
+        self.top += 1;
+        self.depth += 1;
+        set_mark(self.n, self.tables, z, self.top as u16);
+    }
+
+    // Takes a place from the path, and leaves this many codes on the stack.
+    pub(crate) fn back_to(&mut self, top: usize)
+        requires { 0 < self.old.depth }
+        ensures { self.new ≡ moved self.old self.old.tables top (self.old.depth - 1) }
+    {
+        self.top = top;
+        self.depth -= 1;
+    }
 }

@@ -1,41 +1,74 @@
 // What is read off once every code is settled: two codes are tied exactly if they have one mark. The contracts hold for any list
 // whose leads the marks tell, so that the words need not be handed over again.
-ghost use Rattle.std.specs.Prelude.{List, ℕ, ◌≤◌, length};
+ghost use Rattle.std.specs.Prelude.{◌≡◌, List, ℕ, ◌*◌, ◌≤◌, ◌<◌, length};
 ghost use Rattle.meaning.specs.Sizes.{max_choices, ties_need};
-ghost use Rattle.moves.specs.Layout.{Tables};
+ghost use Rattle.moves.specs.Layout.{Tables, mark};
 ghost use Rattle.components.specs.Leads.{Leads, AllSettled, SomeClash, TiesPut};
 
 use crate::tables::settled_rank;
 use meaning::{Choice, Code};
-use moves::layout::{mark_of, narrow};
+use moves::layout::mark_of;
+use std::marker::Model;
 
-// Does some choice clash?
-pub fn some_clash(n: usize, work: &[u16]) -> bool
-    requires { (n ≤ max_choices) × Tables n work.now }
-    ensures { (ws : List ℕ) → Leads n ws work.now → SomeClash n ws result }
-{
-    let mut v = 0;
-    while v < n {
-        let late = Code::of(Choice(narrow(v)), 1);
-        if mark_of(n, work, late) == mark_of(n, work, late.opposite()) {
-            return true;
-        }
-        v += 1;
-    }
-    false
+// The ranks as the walk leaves them.
+#[derive(Drop)]
+pub struct Ranks<'a> {
+    n: usize,
+    tables: &'a [u16],
 }
 
-// The tie of each choice is written at the front of the area.
-pub fn put_ties(n: usize, work: &[u16], area: &mut [u16])
-    requires n_le_max_choices { (n ≤ max_choices) × Tables n work.now × (ties_need n ≤ length area.old) }
-    requires all_settled { AllSettled n work.now }
-    ensures { TiesPut n work.now area.old area.new }
-{
-    let first = narrow(settled_rank(n, Code(0)));
-    let mut v = 0;
-    while v < n {
-        let late = Code::of(Choice(narrow(v)), 1);
-        area[v] = mark_of(n, work, late) - first;
-        v += 1;
+impl<'a> Model for Ranks<'a> {
+    ghost use Rattle.std.specs.Prelude.{◌*◌, ◌≤◌};
+    ghost use Rattle.meaning.specs.Sizes.{max_choices};
+    ghost use Rattle.moves.specs.Layout.{Tables};
+    ghost use Rattle.components.specs.Leads.{Marked};
+
+    ghost Value = { Marked };
+
+    ghost view = { λ w. record { n = w.n; tables = w.tables.now } };
+
+    ghost invariant = { λ w. (w.n ≤ max_choices) × Tables w.n w.tables.now };
+}
+
+impl<'a> Ranks<'a> {
+    pub fn new(n: usize, tables: &'a [u16]) -> Ranks<'a>
+        requires { (n ≤ max_choices) × Tables n tables.now }
+        ensures { result ≡ record { n = n; tables = tables.now } }
+    {
+        Ranks { n, tables }
+    }
+
+    // The rank of x: two codes are tied exactly if they have one.
+    pub fn mark(&self, x: Code) -> u16
+        requires { x.0 < 2 * self.now.n }
+        ensures { result ≡ mark self.now.n self.now.tables x.0 }
+    {
+        mark_of(self.n, self.tables, x)
+    }
+
+    // Does some choice clash?
+    pub fn some_clash(&self) -> bool
+        ensures { (ws : List ℕ) → Leads self.now.n ws self.now.tables → SomeClash self.now.n ws result }
+    {
+        for v in 0..self.n {
+            let late = Code::of(Choice(v as u16), 1);
+            if self.mark(late) == self.mark(late.opposite()) {
+                return true;
+            }
+        }
+        false
+    }
+
+    // The tie of each choice is written at the front of the area.
+    pub fn put_ties(&self, area: &mut [u16])
+        requires settled { AllSettled self.now.n self.now.tables }
+        requires room { ties_need self.now.n ≤ length area.old }
+        ensures { TiesPut self.now.n self.now.tables area.old area.new }
+    {
+        let first = settled_rank(self.n, Code(0)) as u16;
+        for (v, item) in area[..self.n].iter_mut().enumerate() {
+            let late = Code::of(Choice(v as u16), 1);
+            *item = self.mark(late) - first;
+        }
     }
 }

@@ -1,91 +1,80 @@
 // The walk over all codes, depth first, with one rank a code in place of Tarjan's two numbers, as Pearce has it. It keeps its own
 // stack and path in the work area, so that its depth costs no recursion.
 ghost use Rattle.std.specs.Prelude.{◌≡◌, ℕ, ◌*◌, ◌<◌};
-ghost use Rattle.moves.specs.Layout.{Sizes, mark};
-ghost use Rattle.moves.specs.Lists.{Nexts, Ready};
+ghost use Rattle.moves.specs.Layout.{mark};
+ghost use Rattle.moves.specs.Lists.{Ready};
 ghost use Rattle.components.specs.Leads.{Leads, Side};
-ghost use Rattle.components.specs.Walk.{WalkState, TurnMade, Searched};
+ghost use Rattle.components.specs.Walk.{Linked, Running, Turns, Searches, Lifted, retabled};
 
-use crate::scan::{Unmet, scan};
-use crate::settle::close;
-use crate::stack::{lower, note, push};
-use crate::tables::path_of;
+use crate::tables::Walk;
+use crate::ties::Ranks;
 use meaning::Code;
-use moves::layout::{mark_of, narrow, trail_code};
 
-// The counts of the stack and of the path.
-#[derive(Clone, Copy)]
-struct Ends {
-    pub top: usize,
-    pub depth: usize,
-}
+impl Walk<'_> {
+    // The code b gets the rank low, where that is less.
+    fn lower(&mut self, b: Code, low: usize)
+        requires { (b.0 < 2 * self.old.n) × (low < 65536) }
+        ensures retabled { self.new ≡ retabled self.old self.new.tables }
+        ensures lifted { Lifted self.old.n b.0 low self.old.tables self.new.tables }
+    {
+        if low < self.rank_of(b) {
+            self.set_rank(b, low);
+        }
+    }
 
-// One turn at the end of the path: a code more, or a code less, or a component less.
-fn turn(n: usize, words: &[u16], work: &mut [u16], top: usize, depth: usize) -> Ends
-    requires sizes { Sizes n words.now work.old }
-    requires nexts { Nexts n words.now work.old }
-    requires depth_nonzero { (0 < depth) × WalkState n words.now work.old top depth }
-    ensures { TurnMade n words.now work.old top depth work.new result.top result.depth }
-{
-    let place = path_of(n, work, depth - 1);
-    let a = trail_code(n, work, place);
-    let f = scan(n, words, work, a);
-    let low = f.low;
-    let down = f.down;
-    note(n, work, a, f.cursor, low);
-    if let Unmet::At(z) = down {
-        push(n, work, z, top, depth);
-        return Ends {
-            top: top + 1,
-            depth: depth + 1,
-        };
+    // One turn at the end of the path: a code more, or a code less, or a component less.
+    fn turn(&mut self)
+        requires linked { Linked self.old }
+        requires running { (0 < self.old.depth) × Running self.old }
+        ensures { Turns self.old self.new }
+    {
+        let place = self.path_end(1);
+        let a = self.stacked(place);
+        let found = self.scan(a);
+        self.note(a, found.cursor, found.low);
+        if let Some(z) = found.down {
+            self.push(z);
+            return;
+        }
+        if found.low == place + 1 {
+            self.close(place);
+            self.back_to(place);
+            return;
+        }
+        let b = self.stacked(self.path_end(2));
+        self.lower(b, found.low);
+        self.back_to(self.top());
     }
-    if low == place + 1 {
-        close(n, work, place, top);
-        return Ends {
-            top: place,
-            depth: depth - 1,
-        };
-    }
-    let b = trail_code(n, work, path_of(n, work, depth - 2));
-    lower(n, work, b, low);
-    Ends {
-        top,
-        depth: depth - 1,
-    }
-}
 
-// Walks from root until the stack is empty.
-fn search(n: usize, words: &[u16], work: &mut [u16], root: Code)
-    requires sizes { Sizes n words.now work.old }
-    requires nexts { Nexts n words.now work.old }
-    requires root_bound { (root.0 < 2 * n) × (mark n work.old root.0 ≡ 0) × WalkState n words.now work.old 0 0 }
-    ensures { Searched n words.now root.0 work.old work.new }
-{
-    let start = root.0;
-    push(n, work, Code(start), 0, 0);
-    let mut top = 1;
-    let mut depth = 1;
-    while 0 < depth {
-        let r = turn(n, words, work, top, depth);
-        top = r.top;
-        depth = r.depth;
+    // Walks from root until the stack is empty.
+    fn search(&mut self, root: Code)
+        requires linked { Linked self.old }
+        requires running { (self.old.top ≡ 0) × (self.old.depth ≡ 0) × Running self.old }
+        requires root { (root.0 < 2 * self.old.n) × (mark self.old.n self.old.tables root.0 ≡ 0) }
+        ensures { Searches self.old root.0 self.new }
+    {
+        self.push(root);
+        // The path is a stack, which each turn changes: so no `for`.
+        while 0 < self.depth() {
+            self.turn();
+        }
     }
 }
 
-// Settles every code: its mark becomes 2n + 1 more than the smallest code that it is tied to. The heads are used up.
-pub fn components(n: usize, words: &[u16], work: &mut [u16])
+// Settles every code, over the parts of the `Walk` that it makes: its mark becomes 2n + 1 more than the smallest code that it is tied to. The heads are used up.
+pub fn components<'a>(n: usize, words: &'a [u16], work: &'a mut [u16]) -> Ranks<'a>
     requires ready { Ready n words.now work.old }
     requires by_index { (x : ℕ) → x < 2 * n → mark n work.old x ≡ 0 }
-    ensures side { Side n work.old work.new }
-    ensures leads { Leads n words.now work.new }
+    ensures n { result.n ≡ n }
+    ensures side { Side n work.old result.tables }
+    ensures leads { Leads n words.now result.tables }
 {
-    let mut x = 0;
-    while x < 2 * n {
-        let root = Code(narrow(x));
-        if mark_of(n, work, root) == 0 {
-            search(n, words, work, root);
+    let mut walk = Walk::new(n, words, work);
+    for x in 0..(2 * n) as u16 {
+        let root = Code(x);
+        if walk.rank_of(root) == 0 {
+            walk.search(root);
         }
-        x += 1;
     }
+    walk.ranks()
 }

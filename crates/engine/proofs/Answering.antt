@@ -1,121 +1,130 @@
--- How each call keeps its promise: from what its moves found, what was written and what was cleared.
+-- How each call keeps its promise: from what its moves found.
 use mathlib.Core.Path.{◌≡◌, refl, sym, ◌∙◌}
 use mathlib.Core.Logic.{⊎_elim}
-use mathlib.Core.Bool.{true, false}
-use mathlib.Core.List.{List, []}
-use Prim.Native.Nat.{ℕ, ◌*◌}
+use mathlib.Core.List.{List, [], ◌++◌}
+use Prim.Native.Nat.{ℕ, ◌-◌, ◌*◌, ◌≤◌, ◌<◌}
 use native.Mathlib.Omega.{arith}
-use lib.ListN.{length, take, get_or-eq_default}
+use lib.ListN.{length, take, drop, length-drop, get_or-eq_default}
 use lib.Seq.{length-take-le}
+use Rattle.std.proofs.lemmas.List.{append-nil, drop_all}
+use Rattle.std.specs.Prelude.{min, Result, Ok, Err, IsErrAnd}
 use Rattle.meaning.specs.declared.refusal.Refusal.{Refusal}
 use Rattle.meaning.specs.declared.codes.Choice.{Choice}
-use Rattle.meaning.specs.declared.answers.Decided.{Decided}
-use Rattle.meaning.specs.declared.answers.Listed.{Listed}
-use Rattle.meaning.specs.declared.answers.Clashed.{Clashed}
-use Rattle.meaning.specs.Chains.{Tie}
-use Rattle.meaning.specs.Codes.{late, early}
-use Rattle.meaning.specs.Promises.{Keeps, decided_refusal, DecideSays, Decides, listed_refusal, ListedSays, Forces, TiesUp, clashed_refusal, ClashSays, Clashes}
-use Rattle.meaning.specs.Refusals.{Due, as_due, list_due, next_due}
-use Rattle.meaning.specs.Rotas.{Rota, Possible, Forced}
-use Rattle.meaning.specs.Sizes.{rota_needs, chains_need, ties_need, over, cleared}
-use Rattle.moves.specs.Walks.{Undone}
-use Rattle.chains.specs.Traces.{Chained}
-use Rattle.components.specs.Leads.{Leads, Side, SomeClash, TiesPut}
-use Rattle.search.specs.Search.{Settles, Halts}
-use Rattle.search.specs.State.{rota_of, Around}
-use Rattle.rounds.specs.Rounds.{Swept, forced_of}
-use Rattle.engine.specs.Beginning.{Prepared}
-use Rattle.meaning.proofs.ChainLaws.{clash_impossible}
-use Rattle.meaning.proofs.General.{below_or_from}
-use Rattle.meaning.proofs.Keeping.{keeps_answer, keeps_refusal}
+use Rattle.meaning.specs.declared.answers.Moved.{Moved}
+use Rattle.meaning.specs.Chains.{Reach, LowestClash}
+use Rattle.meaning.specs.Codes.{late, early, opposite, code_of, last_choice}
+use Rattle.meaning.specs.Sizes.{max_choices, chains_need, over}
+use Rattle.meaning.specs.Promises.{Each, BothChains, Keeps, NextSays}
+use Rattle.meaning.specs.Refusals.{Due, as_due, next_due}
+use Rattle.meaning.specs.Rotas.{Rota, Possible, Impossible, First, Next, Ended, Forced}
+use Rattle.moves.specs.Area.{Area, Begun, Undoes}
+use Rattle.moves.specs.Lists.{Ready}
+use Rattle.chains.specs.Traces.{Traced, Chained}
+use Rattle.search.specs.Search.{Searches, Settles, Halts}
+use Rattle.search.specs.State.{Around, rota_of}
+use Rattle.replay.specs.Replay.{Finds}
+use Rattle.rounds.specs.Rounds.{Sweeps, Swept, forced_of}
+use Rattle.meaning.proofs.CodeLaws.{opposite_late, opposite_early}
+use Rattle.meaning.proofs.General.{below_or_from, lent_on}
+use Rattle.chains.proofs.Both.{second_room, both_chains}
+use Rattle.meaning.proofs.Keeping.{keeps_refusal}
 use Rattle.meaning.proofs.RefusalLaws.{next_accepted}
-use Rattle.chains.proofs.Both.{both_chains}
-use Rattle.components.proofs.Answers.{possible_of}
-use Rattle.search.proofs.Searching.{around_trans, apart_around, found_first, found_clash}
+use Rattle.search.proofs.Searching.{found_first, found_clash}
 use Rattle.rounds.proofs.Forcing.{bytes_right}
-use Rattle.engine.proofs.Preparing.{cleared_last}
 
--- the moves have left alone what lies past the lists
-pub beside : {n : ℕ} {W W' : List ℕ} → Around n W W' → Side n W W'
-beside a = record { long = a.long; nexts = a.nexts }
+-- what is due is refused
+pub refuses : {A : Type 0} (says : A → List ℕ → Type 0) (due : Due) (n : ℕ) (ws area W : List ℕ) (answer : Result A Refusal) (r : Refusal) → as_due r ≡ due →
+    IsErrAnd answer (λ s. s ≡ r) → Keeps says due n ws area W answer area W
+refuses says due n ws area W (Ok a) r e h = absurd h
+refuses says due n ws area W (Err s) r e h = keeps_refusal says due n ws area W s (rw h e)
 
--- what is due is refused, and the work area stays
-pub refuses : {A : Type 0} (refusal : A → Due) (says : A → List ℕ → Type 0) (due : Due) (n : ℕ) (ws area W W' : List ℕ) (a : A) (r : Refusal) → (as_due r ≡ due) × (W' ≡ W) →
-    refusal a ≡ as_due r → Keeps refusal says due n ws area W a area W'
-refuses refusal says due n ws area W W' a r b e = rw b.1 (keeps_refusal refusal says n ws area W due a r b.0 e)
+-- the search of a call begins in an area where no code has a mark and nothing is noted
+module _ {n : ℕ} {ws : List ℕ} {a : Area} (begun : Begun n ws a) where
+  settles : {b : Area} {x : Unit {0}} → Searches a 0 b (Ok x) → Settles n ws 0 n a.words b.words b.tail
+  settles s = rw (begun.choices, begun.list) at s.says
 
--- an answer to a call for which nothing is due: its items are right and written, and the work area, once prepared, is cleared
-module _ {A : Type 0} (refusal : A → Due) (says : A → List ℕ → Type 0) (due : Due) (n : ℕ) (ws area W W₁ : List ℕ) (fine : Due.none ≡ due) (p : Prepared n ws W W₁) where
-  pub answers : (a : A) (items W₂ W₃ area' : List ℕ) → refusal a ≡ Due.none → says a items → Side n W₁ W₂ → area' ≡ over items area → W₃ ≡ cleared n ws W₂ →
-      Keeps refusal says due n ws area W a area' W₃
-  answers a items W₂ W₃ area' e right side put clear =
-      keeps_answer refusal says n ws area W due a area' W₃ fine e
-      (record { items = items; right = right; written = put; zeros = clear ∙ cleared_last n ws W W₁ W₂ p side })
+  -- it finds the first rota, or the lowest clash
+  pub first_found : {b : Area} {x : Unit {0}} → Searches a 0 b (Ok x) → First n ws (rota_of n b.words)
+  first_found {b} s = found_first n ws a.words begun.unmarked b.words b.tail (settles s)
 
--- Decide and Forced, after the search
-module _ (n : ℕ) (ws area W W₁ : List ℕ) (fine : Due.none ≡ list_due n ws (length area) (rota_needs n) (length W)) (p : Prepared n ws W W₁) where
-  abbrev due : Due
-  due = list_due n ws (length area) (rota_needs n) (length W)
+  pub clash_found : {b : Area} {v : Choice} → Searches a 0 b (Err v) → LowestClash ws v.0
+  clash_found {b} {v} s =
+      let halts : Halts n ws 0 a.words b.words v.0 b.tail = rw (begun.choices, begun.list) at s.says in
+      found_clash n ws a.words begun.unmarked b.words v.0 b.tail halts
 
-  module _ (W₂ : List ℕ) (t : ℕ) (s : Settles n ws 0 n W₁ W₂ t) where
-    pub decides_first : (W₃ area' : List ℕ) → area' ≡ over (rota_of n W₂) area → W₃ ≡ cleared n ws W₂ → Decides n ws area W Decided.Possible area' W₃
-    decides_first W₃ area' put clear =
-        answers decided_refusal (DecideSays n ws) due n ws area W W₁ fine p Decided.Possible (rota_of n W₂) W₂ W₃ area' refl
-        (found_first n ws W₁ p.unmarked W₂ t s) (beside s.around) put clear
+  -- and the rounds after it find what is forced
+  pub forced_found : {b : Area} {x : Unit {0}} (c : Area) → Searches a 0 b (Ok x) → Sweeps b c → Each n (Forced n ws) (forced_of n c.words)
+  forced_found {b} c s w =
+      let swept : Swept n ws (2 * n) b.words c.words = rw (s.same.choices ∙ begun.choices, s.same.list ∙ begun.list) at w.swept in
+      bytes_right n ws c.words 0 swept.more.state swept.all (rota_of n b.words, (first_found s).allowed)
 
-    pub forces_bytes : (W₃ W₄ area' : List ℕ) → Swept n ws (2 * n) W₂ W₃ → area' ≡ over (forced_of n W₃) area → W₄ ≡ cleared n ws W₃ →
-        Forces n ws area W Listed.Done area' W₄
-    forces_bytes W₃ W₄ area' w put clear =
-        let possible : Possible n ws = (rota_of n W₂, (found_first n ws W₁ p.unmarked W₂ t s).allowed) in
-        answers listed_refusal (ListedSays n ws (Forced n ws)) due n ws area W W₁ fine p Listed.Done (forced_of n W₃) W₃ W₄ area' refl
-        (possible, bytes_right n ws W₃ 0 w.more.state w.all possible) (beside (around_trans s.around w.more.around)) put clear
+  -- Next finds the rota that comes after, or what else it answers
+  pub next_found : {b : Area} (r : List ℕ) → Finds a (take a.n r) b Moved.Moved → Next n ws (take n r) (rota_of n b.words)
+  next_found {b} r f =
+      let says : Around n a.words b.words × Next n ws (take n r) (rota_of n b.words) = rw (begun.choices, begun.list) at f.says in
+      says.1
 
-  module _ (W₂ W₃ : List ℕ) (v : Choice) (t : ℕ) (h : Halts n ws 0 W₁ W₂ v.0 t) (clear : W₃ ≡ cleared n ws W₂) where
-    pub decides_clash : Decides n ws area W (Decided.Impossible v) area W₃
-    decides_clash =
-        answers decided_refusal (DecideSays n ws) due n ws area W W₁ fine p (Decided.Impossible v) [] W₂ W₃ area refl
-        (found_clash n ws W₁ p.unmarked W₂ v.0 t h, refl) (beside h.around) refl clear
+  pub none_found : {b : Area} (r : List ℕ) (m : Moved) → Finds a (take a.n r) b m → (m ≡ Moved.Moved → ⊥) → NextSays n ws (take n r) m []
+  none_found r Moved.Moved f other = absurd (other refl)
+  none_found {b} r Moved.Ended f other =
+      let says : Around n a.words b.words × Possible n ws × Ended n ws (take n r) = rw (begun.choices, begun.list) at f.says in
+      (says.1, says.2, refl)
+  none_found {b} r Moved.Impossible f other =
+      let says : Around n a.words b.words × Impossible n ws = rw (begun.choices, begun.list) at f.says in
+      (says.1, refl)
 
-    pub forces_none : Forces n ws area W Listed.Impossible area W₃
-    forces_none =
-        answers listed_refusal (ListedSays n ws (Forced n ws)) due n ws area W W₁ fine p Listed.Impossible [] W₂ W₃ area refl
-        (clash_impossible n ws v.0 h.clash, refl) (beside h.around) refl clear
+-- Clash: the search is taken back, and two chains are written of the choice that is stuck
+module _ {n : ℕ} {ws : List ℕ} {a b u : Area} {v : Choice} (few : n ≤ max_choices) (begun : Begun n ws a) (stuck : Searches a 0 b (Err v)) (undone : Undoes b 0 u) where
+  same_choices : u.n ≡ n
+  same_choices = undone.same.choices ∙ stuck.same.choices ∙ begun.choices
 
--- Clash
-module _ (n : ℕ) (ws area W W₁ : List ℕ) (fine : Due.none ≡ list_due n ws (length area) (chains_need n) (length W)) (p : Prepared n ws W W₁) where
-  abbrev due_chains : Due
-  due_chains = list_due n ws (length area) (chains_need n) (length W)
+  same_list : u.rules ≡ ws
+  same_list = undone.same.list ∙ stuck.same.list ∙ begun.list
 
-  pub clash_possible : (W₂ W₃ : List ℕ) (t : ℕ) → Settles n ws 0 n W₁ W₂ t → W₃ ≡ cleared n ws W₂ → Clashes n ws area W Clashed.Possible area W₃
-  clash_possible W₂ W₃ t s clear =
-      answers clashed_refusal (ClashSays n ws) due_chains n ws area W W₁ fine p Clashed.Possible [] W₂ W₃ area refl
-      ((rota_of n W₂, (found_first n ws W₁ p.unmarked W₂ t s).allowed), refl) (beside s.around) refl clear
+  stuck_halts : Halts n ws 0 a.words b.words v.0 b.tail
+  stuck_halts = rw (begun.choices, begun.list) at stuck.says
 
-  -- the search is taken back, and two chains are written
-  pub clash_chains : (W₂ W₃ W₄ W₅ W₆ area₁ area₂ : List ℕ) (v : Choice) (t i j : ℕ) → Halts n ws 0 W₁ W₂ v.0 t → Undone n 0 W₂ W₃ →
-      Chained n ws (late v.0) 0 W₃ W₄ area area₁ i → Chained n ws (early v.0) i W₄ W₅ area₁ area₂ j → W₆ ≡ cleared n ws W₅ →
-      Clashes n ws area W (Clashed.Chains v i j) area₂ W₆
-  clash_chains W₂ W₃ W₄ W₅ W₆ area₁ area₂ v t i j h u a b clear =
-      let both = both_chains (found_clash n ws W₁ p.unmarked W₂ v.0 t h) a.traced b.traced in
-      let around = around_trans h.around (around_trans (apart_around u.apart) (around_trans (apart_around a.apart) (apart_around b.apart))) in
-      answers clashed_refusal (ClashSays n ws) due_chains n ws area W W₁ fine p (Clashed.Chains v i j) both.0 W₅ W₆ area₂ refl
-      both.1 (beside around) both.2 clear
+  -- the codes of the choice
+  pub is_late : (c : ℕ) → c ≡ code_of (min last_choice v.0) 1 → c ≡ late v.0
+  is_late c e = omega (arith, e, few, stuck_halts.within)
 
--- Ties
-module _ (n : ℕ) (ws area W W₁ : List ℕ) (fine : Due.none ≡ list_due n ws (length area) (ties_need n) (length W)) (p : Prepared n ws W W₁)
-    (W₂ W₃ : List ℕ) (side : Side n W₁ W₂) (clear : W₃ ≡ cleared n ws W₂) where
-  abbrev due_ties : Due
-  due_ties = list_due n ws (length area) (ties_need n) (length W)
+  pub is_early : (c : ℕ) → c ≡ code_of (min last_choice v.0) 0 → c ≡ early v.0
+  is_early c e = omega (arith, e, few, stuck_halts.within)
 
-  pub ties_written : (area' : List ℕ) → Leads n ws W₂ → SomeClash n ws false → TiesPut n W₂ area area' → TiesUp n ws area W Listed.Done area' W₃
-  ties_written area' leads free put =
-      answers listed_refusal (ListedSays n ws (Tie ws)) due_ties n ws area W W₁ fine p Listed.Done put.items W₂ W₃ area' refl
-      (possible_of p.state.ready.sizes.codes free, put.ties ws leads) side put.written clear
+  module _ {c : ℕ} (area : List ℕ) (e : c ≡ late v.0) (fits : chains_need n ≤ length area) where
+    -- the first chain can be written
+    pub late_chains : (c < 2 * u.n) × Reach u.rules c (opposite c) × (2 * u.n ≤ length area)
+    late_chains =
+        rw (same_choices, same_list)
+        (omega (arith, e, stuck_halts.within), rw (e, opposite_late v.0) stuck_halts.clash.0, omega (arith, fits))
 
-  pub ties_none : SomeClash n ws true → TiesUp n ws area W Listed.Impossible area W₃
-  ties_none some =
-      answers listed_refusal (ListedSays n ws (Tie ws)) due_ties n ws area W W₁ fine p Listed.Impossible [] W₂ W₃ area refl
-      (clash_impossible n ws some.0 some.1, refl) side refl clear
+    module _ {w : Area} {area₁ : List ℕ} {r : ℕ} (first : Chained u c w area area₁ r) where
+      traced_late : Traced ws c area area₁ r
+      traced_late = rw same_list at first.traced
+
+      -- behind it there is room for the second
+      rest_room : (r ≤ length area₁) × (2 * n ≤ length (drop r area₁))
+      rest_room =
+          let ready : Ready n ws u.words = rw (same_choices, same_list) at undone.same.sound.ready in
+          second_room ready (omega (arith, e, stuck_halts.within)) traced_late fits
+
+      rest_whole : take (length area₁ - r) (drop r area₁) ≡ drop r area₁
+      rest_whole = lent_on area₁ r
+
+      pub early_chains : (d : ℕ) → d ≡ early v.0 → (d < 2 * w.n) × Reach w.rules d (opposite d) × (2 * w.n ≤ length (take (length area₁ - r) (drop r area₁)))
+      early_chains d f =
+          rw (first.same.choices ∙ same_choices, first.same.list ∙ same_list, rest_whole)
+          (omega (arith, f, stuck_halts.within), rw (f, opposite_early v.0) stuck_halts.clash.1, rest_room.1)
+
+      -- and both are what the call promises
+      pub chains_found : {x : Area} {part : List ℕ} {d s : ℕ} → d ≡ early v.0 → Chained w d x (take (length area₁ - r) (drop r area₁)) part s →
+          (xs : List ℕ) × BothChains ws v.0 r s xs × (take r area₁ ++ (part ++ drop (length area₁ - r) (drop r area₁)) ≡ over xs area)
+      chains_found {x} {part} {d} {s} f second =
+          let one : Traced ws (late v.0) area area₁ r = rw e at traced_late in
+          let two : Traced ws (early v.0) (drop r area₁) part s = rw (first.same.list ∙ same_list, rest_whole, f) at second.traced in
+          let both = both_chains (clash_found begun stuck) one two in
+          let end : part ++ drop (length area₁ - r) (drop r area₁) ≡ part = rw (drop_all (length area₁ - r) (drop r area₁) (omega (arith, length-drop r area₁))) (append-nil part) in
+          (both.0, both.1, rw end both.2)
 
 -- Next: the given bytes are a rota
 pub next_rota : (n : ℕ) (ws area : List ℕ) (work : ℕ) → Due.none ≡ next_due n ws area work → Rota n (take n area)

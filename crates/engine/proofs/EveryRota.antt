@@ -6,8 +6,10 @@ use Prim.Native.Nat.{ℕ}
 use borrow.Fn.World.{ArgsD}
 use contract.Lifetimes.{Lfts}
 use denote.Triple.Clauses.{AtExit}
+use Rattle.std.specs.Prelude.{Result}
 use Rattle.meaning.specs.declared.answers.Decided.{Decided}
 use Rattle.meaning.specs.declared.answers.Moved.{Moved}
+use Rattle.meaning.specs.declared.refusal.Refusal.{Refusal}
 use Rattle.meaning.specs.Promises.{Decides, Moves}
 use Rattle.meaning.specs.Runs.{RunOf, EveryRota}
 use Rattle.meaning.proofs.EveryRotaOnce.{calls_list_every_rota}
@@ -26,7 +28,7 @@ pub record Lends (κs : Lfts 3) (args : ArgsD decide.signature κs) (exits : AtE
   pub work_after : exits.1.1.1.0.now ≡ work'
 
 -- `decide` was called, and answered r
-pub record DecideCall (n : ℕ) (ws area work : List ℕ) (r : Decided) (area' work' : List ℕ) : Type 1 where
+pub record DecideCall (n : ℕ) (ws area work : List ℕ) (r : Result Decided Refusal) (area' work' : List ℕ) : Type 1 where
   pub κs : Lfts 3
   pub args : ArgsD decide.signature κs
   pub exits : AtExit decide.ended κs
@@ -34,7 +36,7 @@ pub record DecideCall (n : ℕ) (ws area work : List ℕ) (r : Decided) (area' w
   pub told : decide_reads.Learnt κs args r exits
 
 -- and so `next`
-pub record NextCall (n : ℕ) (ws area work : List ℕ) (r : Moved) (area' work' : List ℕ) : Type 1 where
+pub record NextCall (n : ℕ) (ws area work : List ℕ) (r : Result Moved Refusal) (area' work' : List ℕ) : Type 1 where
   pub κs : Lfts 3
   pub args : ArgsD next.signature κs
   pub exits : AtExit next.ended κs
@@ -48,10 +50,10 @@ tells : {A : Type 0} (P : ℕ → List ℕ → List ℕ → List ℕ → A → L
 tells P r κs args exits l p = rw (l.is_count, l.is_words, l.is_area, l.is_work, l.area_after, l.work_after) at p
 
 -- each keeps its promise
-pub decide_keeps : (n : ℕ) (ws area work : List ℕ) (r : Decided) (area' work' : List ℕ) → DecideCall n ws area work r area' work' → Decides n ws area work r area' work'
+pub decide_keeps : (n : ℕ) (ws area work : List ℕ) (r : Result Decided Refusal) (area' work' : List ℕ) → DecideCall n ws area work r area' work' → Decides n ws area work r area' work'
 decide_keeps n ws area work r area' work' c = tells Decides r c.κs c.args c.exits c.lends c.told
 
-pub next_keeps : (n : ℕ) (ws area work : List ℕ) (r : Moved) (area' work' : List ℕ) → NextCall n ws area work r area' work' → Moves n ws area work r area' work'
+pub next_keeps : (n : ℕ) (ws area work : List ℕ) (r : Result Moved Refusal) (area' work' : List ℕ) → NextCall n ws area work r area' work' → Moves n ws area work r area' work'
 next_keeps n ws area work r area' work' c = tells Moves r c.κs c.args c.exits c.lends c.told
 
 -- the rotas that `decide`, and then `next` until it ends, leave in the area

@@ -1,4 +1,4 @@
 -- The laws that carry the engine's calls.
-pub mod Preparing
+pub mod Fronts
 pub mod Answering
 pub mod EveryRota

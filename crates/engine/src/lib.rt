@@ -1,132 +1,133 @@
-// The calls on a list. Each looks for refusals first, works in the lent work area, writes its answer and clears the work area last.
+// The calls on a list. Each accepts its input or refuses it, makes its moves in the front of the lent work area, writes its answer, and clears that front.
+// The choices and the rules stay two parameters, as every caller has them, C too. And each call has its frame written out: over a closure, the frame's clause
+// would have to say what the closure leaves in the area of the answer.
 #![tactic(auto)]
 
+ghost use Rattle.std.specs.Prelude.{◌≡◌, length, replicate};
 ghost use Rattle.meaning.specs.Promises.{Clashes, Decides, Forces, Moves, TiesUp};
 
-use areas::{begin, begin_next, finish};
 use chains::chain::chain;
-use checks::refuse::{Checked, chains_need};
-use components::ties::{put_ties, some_clash};
+use checks::accept::{accept, accept_next, chains_need};
 use components::walk::components;
-use meaning::{Choice, Clashed, Code, Decided, Listed, Moved};
-use moves::spread::undo;
-use replay::turn::{Turn, find_next};
+use meaning::{Choice, Clashed, Code, Decided, Listed, Moved, Refusal};
+use moves::index::prepare;
+use moves::work::Work;
+use replay::turn::find_next;
 use rounds::bytes::put_forced;
 use rounds::round::sweep;
-use search::first::{Found, search};
+use search::first::search;
 use search::rota::put_rota;
 
-mod areas; // how a call begins and finishes
-
 // The first allowed rota; or the lowest choice that clashes.
-pub fn decide(n: usize, words: &[u16], rota: &mut [u8], work: &mut [u16]) -> Decided
+pub fn decide(
+    n: usize,
+    words: &[u16],
+    rota: &mut [u8],
+    work: &mut [u16],
+) -> Result<Decided, Refusal>
     ensures { Decides n words.now rota.old work.old result rota.new work.new }
 {
-    let begun = begin(n, words, rota.len(), n, work);
-    if let Checked::Refused(refusal) = begun {
-        return Decided::Refused(refusal);
-    }
-    let found = search(n, words, work, Choice(0), 0);
-    match found {
-        Found::Whole(_) => {
-            put_rota(n, work, rota);
-            finish(n, words, work);
+    let used = accept(n, words, rota.len(), n, work.len())?;
+    let front = &mut work[..used];
+    let mut state = Work::new(n, words, front);
+    let answer = match search(&mut state, Choice(0)) {
+        Ok(()) => {
+            put_rota(state.view(), rota);
             Decided::Possible
         }
-        Found::Stuck(v, _) => {
-            finish(n, words, work);
-            Decided::Impossible(v)
-        }
-    }
+        Err(choice) => Decided::Impossible(choice),
+    };
+    finish(front);
+    Ok(answer)
 }
 
 // For each choice 0 or 1 where every allowed rota has that value, 2 where they differ.
-pub fn forced(n: usize, words: &[u16], area: &mut [u8], work: &mut [u16]) -> Listed
+pub fn forced(n: usize, words: &[u16], area: &mut [u8], work: &mut [u16]) -> Result<Listed, Refusal>
     ensures { Forces n words.now area.old work.old result area.new work.new }
 {
-    let begun = begin(n, words, area.len(), n, work);
-    if let Checked::Refused(refusal) = begun {
-        return Listed::Refused(refusal);
-    }
-    let found = search(n, words, work, Choice(0), 0);
-    let Found::Whole(tail) = found else {
-        finish(n, words, work);
-        return Listed::Impossible;
+    let used = accept(n, words, area.len(), n, work.len())?;
+    let front = &mut work[..used];
+    let mut state = Work::new(n, words, front);
+    let answer = match search(&mut state, Choice(0)) {
+        Ok(()) => {
+            sweep(&mut state);
+            put_forced(state.view(), area);
+            Listed::Done
+        }
+        Err(_) => Listed::Impossible,
     };
-    sweep(n, words, work, tail);
-    put_forced(n, work, area);
-    finish(n, words, work);
-    Listed::Done
+    finish(front);
+    Ok(answer)
 }
 
 // The two chains of the choice that Decide names: from late to early, and right behind it from early to late.
-pub fn clash(n: usize, words: &[u16], chains: &mut [u16], work: &mut [u16]) -> Clashed
+pub fn clash(
+    n: usize,
+    words: &[u16],
+    chains: &mut [u16],
+    work: &mut [u16],
+) -> Result<Clashed, Refusal>
     ensures { Clashes n words.now chains.old work.old result chains.new work.new }
 {
-    let begun = begin(n, words, chains.len(), chains_need(n), work);
-    if let Checked::Refused(refusal) = begun {
-        return Clashed::Refused(refusal);
-    }
-    let found = search(n, words, work, Choice(0), 0);
-    match found {
-        Found::Whole(_) => {
-            finish(n, words, work);
-            Clashed::Possible
-        }
-        Found::Stuck(v, tail) => {
-            undo(n, work, 0, tail);
-            let there = chain(n, words, work, Code::of(v, 1), chains, 0);
-            let back = chain(n, words, work, Code::of(v, 0), chains, there);
-            finish(n, words, work);
+    let used = accept(n, words, chains.len(), chains_need(n), work.len())?;
+    let front = &mut work[..used];
+    let mut state = Work::new(n, words, front);
+    let answer = match search(&mut state, Choice(0)) {
+        Ok(()) => Clashed::Possible,
+        Err(choice) => {
+            state.undo_to(0);
+            let there = chain(&mut state, Code::of(choice, 1), chains);
+            let back = chain(&mut state, Code::of(choice, 0), &mut chains[there..]);
             Clashed::Chains {
-                choice: v,
+                choice,
                 late_early: there,
                 early_late: back,
             }
         }
-    }
+    };
+    finish(front);
+    Ok(answer)
 }
 
 // For each choice the smallest code that late of it reaches and that reaches it.
-pub fn ties(n: usize, words: &[u16], area: &mut [u16], work: &mut [u16]) -> Listed
+pub fn ties(n: usize, words: &[u16], area: &mut [u16], work: &mut [u16]) -> Result<Listed, Refusal>
     ensures { TiesUp n words.now area.old work.old result area.new work.new }
 {
-    let begun = begin(n, words, area.len(), n, work);
-    if let Checked::Refused(refusal) = begun {
-        return Listed::Refused(refusal);
-    }
-    components(n, words, work);
-    if some_clash(n, work) {
-        finish(n, words, work);
-        return Listed::Impossible;
-    }
-    put_ties(n, work, area);
-    finish(n, words, work);
-    Listed::Done
+    let used = accept(n, words, area.len(), n, work.len())?;
+    let tables = &mut work[..used];
+    prepare(n, words, tables);
+    let ranks = components(n, words, tables);
+    let answer = if ranks.some_clash() {
+        Listed::Impossible
+    } else {
+        ranks.put_ties(area);
+        Listed::Done
+    };
+    finish(tables);
+    Ok(answer)
 }
 
 // The first allowed rota strictly after the given one, which need not be allowed.
-pub fn next(n: usize, words: &[u16], rota: &mut [u8], work: &mut [u16]) -> Moved
+pub fn next(n: usize, words: &[u16], rota: &mut [u8], work: &mut [u16]) -> Result<Moved, Refusal>
     ensures { Moves n words.now rota.old work.old result rota.new work.new }
 {
-    let begun = begin_next(n, words, rota, work);
-    if let Checked::Refused(refusal) = begun {
-        return Moved::Refused(refusal);
-    }
-    let turn = find_next(n, words, work, rota);
-    match turn {
-        Turn::Moved => {
-            put_rota(n, work, rota);
-            finish(n, words, work);
+    let used = accept_next(n, words, rota, work.len())?;
+    let front = &mut work[..used];
+    let mut state = Work::new(n, words, front);
+    let answer = match find_next(&mut state, rota) {
+        Moved::Moved => {
+            put_rota(state.view(), rota);
             Moved::Moved
         }
-        Turn::Ended => {
-            finish(n, words, work);
-            Moved::Ended
-        }
-        Turn::Impossible => {
-            finish(n, words, work);
-            Moved::Impossible
-        }
-    }
+        none => none,
+    };
+    finish(front);
+    Ok(answer)
+}
+
+// The front of the work area that a call used is left as zeros.
+fn finish(front: &mut [u16])
+    ensures { front.new ≡ replicate (length front.old) 0 }
+{
+    front.fill(0);
 }

@@ -1,3 +1,4 @@
 -- The laws that carry the lessons.
 pub mod Noting
 pub mod Sharing
+pub mod Lessons

@@ -6,7 +6,7 @@ use Prim.Native.Nat.{ℕ, ◌+◌, ◌-◌, ◌*◌, ◌%◌, ◌≤◌, ◌<◌
 use native.Mathlib.Omega.{arith}
 use lib.ListN.{set}
 use Rattle.meaning.specs.Codes.{opposite}
-use Rattle.moves.specs.Layout.{spare_at, trail, spare, Tables, Spared}
+use Rattle.moves.specs.Layout.{spare_at, trail, spare, Tables}
 use Rattle.lessons.specs.Learning.{OnTrail, Shaded, Flagged, Noted, Plain}
 use Rattle.moves.specs.Walks.{Listed}
 use Rattle.meaning.proofs.CodeLaws.{opposite_opposite, opposite_below}
@@ -99,7 +99,3 @@ plain_turn {n} {i} {x} {s} {W₀} {W} {W'} lw l r qx qs qW =
           (same? y i);
       rest = λ y a m. rw (off y (omega arith)) (r.rest y (omega arith) m);
     })
-
--- what stands on the trail is a code
-pub trail_inside : {n end i x : ℕ} {W₀ W : List ℕ} → Listed n W₀ end → i < end → Spared n W₀ W → x ≡ trail n W i → x < 2 * n
-trail_inside {n} {end} {i} {x} {W₀} {W} tr l s qx = omega (arith, qx, s.trails i (omega (arith, trail_few tr)), (tr.inside i l).0)

@@ -8,11 +8,9 @@ use Rattle.meaning.specs.Chains.{Reach}
 use Rattle.meaning.specs.Codes.{opposite}
 use Rattle.moves.specs.Layout.{mark, trail, spare, Spared}
 use Rattle.lessons.specs.Learning.{Notes, Still, Learnt, OnTrail, Shaded, Noted, Plain, Shadowed, Shared}
-use Rattle.moves.specs.Lists.{Ready}
 use Rattle.moves.specs.Walks.{OntoTrail, Holding, SpreadFrom, Undone}
 use Rattle.meaning.proofs.ChainLaws.{reach_trans, reach_turn}
 use Rattle.meaning.proofs.CodeLaws.{opposite_below}
-use Rattle.moves.proofs.Places.{ready_same}
 use Rattle.moves.proofs.Trails.{trail_few}
 use Rattle.moves.proofs.Trying.{listed_spared, holding_same, undone_old, undone_same}
 
@@ -39,10 +37,6 @@ still_trans p q =
       old = λ i l. q.old i l ∙ p.old i l;
       holding = q.holding;
     }
-
--- what was ready is ready
-pub ready_still : {n tail : ℕ} {ws W W' : List ℕ} → Ready n ws W → Still n ws tail W W' → Ready n ws W'
-ready_still r p = ready_same r p.long p.heads p.nexts
 
 module _ {n : ℕ} {ws : List ℕ} {src tail : ℕ} {W W₁ : List ℕ} {t : ℕ} (h : Holding n ws W tail) (sp : SpreadFrom n ws src tail W W₁ t) where
   -- what is new on the trail, src reaches

@@ -2,6 +2,7 @@
 use Rattle.std.specs.Prelude.{◌≡◌, ◌⊎◌, List, ℕ, ◌+◌, ◌-◌, ◌*◌, ◌%◌, ◌≤◌, ◌<◌, length, set}
 use Rattle.meaning.specs.Chains.{Reach}
 use Rattle.meaning.specs.Codes.{opposite}
+use Rattle.moves.specs.Area.{Area, Same}
 use Rattle.moves.specs.Layout.{spare_at, head, mark, trail, spare, next, Spared}
 use Rattle.moves.specs.Walks.{Holding}
 
@@ -74,3 +75,47 @@ pub record Shadowed (n : ℕ) (ws : List ℕ) (b tail : ℕ) (W W' : List ℕ) :
 pub record Shared (n : ℕ) (ws : List ℕ) (b tail : ℕ) (W W' : List ℕ) : Type 0 where
   pub still : Still n ws tail W W'
   pub notes : (x : ℕ) → x < 2 * n → (spare n W' x % shade ≡ spare n W x % shade) ⊎ ((spare n W' x % shade ≡ fails) × (shade ≤ spare n W (opposite x)) × Reach ws b (opposite x))
+
+-- The same of the whole area: the list and the trail's length stay.
+
+-- codes of the trail are shaded
+pub record Shades (a : Area) (from : ℕ) (b : Area) : Type 0 where
+  pub same : Same a b
+  pub stays : b.tail ≡ a.tail
+  pub shaded : Shaded a.n from a.tail a.words b.words
+
+-- x is flagged
+pub record Flags (a : Area) (x : ℕ) (b : Area) : Type 0 where
+  pub same : Same a b
+  pub stays : b.tail ≡ a.tail
+  pub flagged : Flagged a.n a.words x b.words
+
+-- codes of the trail are flagged
+pub record NotesDown (a : Area) (from : ℕ) (b : Area) : Type 0 where
+  pub same : Same a b
+  pub stays : b.tail ≡ a.tail
+  pub noted : Noted a.n from a.tail a.words b.words
+
+-- the shades are gone
+pub record Unshades (a b : Area) : Type 0 where
+  pub same : Same a b
+  pub stays : b.tail ≡ a.tail
+  pub plain : Plain a.n (2 * a.n) a.words b.words
+
+-- what c reaches is shaded
+pub record Shadows (a : Area) (c : ℕ) (b : Area) : Type 0 where
+  pub same : Same a b
+  pub stays : b.tail ≡ a.tail
+  pub shadowed : Shadowed a.n a.rules c a.tail a.words b.words
+
+-- what c reaches and is shaded is noted
+pub record Shares (a : Area) (c : ℕ) (b : Area) : Type 0 where
+  pub same : Same a b
+  pub stays : b.tail ≡ a.tail
+  pub shared : Shared a.n a.rules c a.tail a.words b.words
+
+-- a failure is learnt from
+pub record Learns (a b : Area) : Type 0 where
+  pub same : Same a b
+  pub stays : b.tail ≡ a.tail
+  pub learnt : Learnt a.n a.rules a.tail a.words b.words

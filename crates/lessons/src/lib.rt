@@ -1,4 +1,4 @@
-// What a failed trial teaches. For the crates above only: its functions ask their callers for what specs/ of the moves calls `Ready` and `Holding`.
+// What a failed trial teaches. For the crates above only: its functions ask their callers for what specs/ of the moves calls `Holds`.
 #![tactic(auto)]
 
 pub mod learn; // what both ends of a failure lead to is noted

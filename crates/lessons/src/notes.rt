@@ -1,4 +1,5 @@
-// What is noted of a code in the spare table; 0 is nothing.
+// What is noted of a code in the spare table; 0 is nothing. Numbers, and no enum: they stand in words of the lent area, under a shade.
+
 // Some rota has it.
 pub const POSSIBLE: u16 = 1;
 

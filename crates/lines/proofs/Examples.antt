@@ -1,4 +1,5 @@
 -- The promise on three books: case J's, case G's and the empty one, and an area that is too short.
+use Rattle.std.specs.Prelude.{Some, None}
 use mathlib.Core.Path.{refl}
 use mathlib.Core.Logic.{inl, inr}
 use mathlib.Core.List.{[], ◌∷◌}
@@ -11,7 +12,6 @@ use Rattle.table.specs.Table.{case_j}
 use Rattle.table.proofs.Marked.{right_g, right_j}
 use Rattle.meaning.proofs.Tests.{shown, below?, forced?}
 use Rattle.book.specs.Checks.{book_due}
-use Rattle.lines.specs.declared.answer.Shown.{Shown}
 use Rattle.text.specs.Text.{digits, numbers_line, possible_text, impossible_text, refusal_text}
 use Rattle.lines.specs.Promise.{BookText, Shows}
 
@@ -39,9 +39,9 @@ unfolding book_due digits numbers_line
 text_empty = refl
 
 -- Shows: the empty book is refused by 7 at 0, in twelve bytes. text_needs: an area of one byte less stays
-pub show_empty : Shows [] (replicate 5200 7) (Shown.Text 12) (over (refusal_text 7 0) (replicate 5200 7))
+pub show_empty : Shows [] (replicate 5200 7) (Some 12) (over (refusal_text 7 0) (replicate 5200 7))
 unfolding book_due digits numbers_line
 show_empty = (omega arith, record { text = refusal_text 7 0; right = refl; long = refl; put = refl })
 
-pub show_short : Shows [] (replicate 5199 7) Shown.TooShort (replicate 5199 7)
+pub show_short : Shows [] (replicate 5199 7) None (replicate 5199 7)
 show_short = (omega arith, refl)

@@ -1,8 +1,9 @@
 -- The library's promise: two outcomes that it allows for one book and one area coincide, the answer and each byte afterwards.
+use Rattle.std.specs.Prelude.{Option, Some, None}
 use mathlib.Core.Path.{◌≡◌, refl, sym, ap, ◌∙◌}
 use mathlib.Core.Logic.{⊎_elim}
 use mathlib.Core.List.{List}
-use Prim.Native.Nat.{ℕ, ◌≤◌}
+use Prim.Native.Nat.{ℕ}
 use native.Mathlib.Omega.{arith}
 use lib.ListN.{length, get_or}
 use lib.Seq.{ext_get_or}
@@ -11,9 +12,7 @@ use Rattle.meaning.specs.Sizes.{over, words_room}
 use Rattle.meaning.specs.Refusals.{Due, refused}
 use Rattle.meaning.proofs.Unique.{first_unique, forced_unique, shortest_unique, lowest_unique, first_or_clash}
 use Rattle.book.specs.Checks.{choices_in, codes_in, book_due}
-use Rattle.lines.specs.declared.answer.Shown.{Shown}
-use Rattle.lines.proofs.Telling.{items_fit}
-use Rattle.lines.specs.Promise.{PossibleTold, ImpossibleTold, ListText, DueText, BookText, Leaves, Shows}
+use Rattle.lines.specs.Promise.{PossibleTold, ImpossibleTold, ListText, DueText, BookText, Shows}
 
 module _ (n : ℕ) (ws : List ℕ) where
   -- of a possible list
@@ -56,14 +55,10 @@ pub text_once : (bs t u : List ℕ) → BookText bs t → BookText bs u → t �
 text_once bs t u p q = due_once (choices_in bs) (codes_in bs) (book_due bs words_room) t u p q
 
 -- two outcomes are the same
-pub shows_once : (bs out : List ℕ) (r s : Shown) (o o' : List ℕ) → Shows bs out r o → Shows bs out s o' → (r ≡ s) × (o ≡ o')
-shows_once bs out (Shown.Text k) (Shown.Text j) o o' p q =
+pub shows_once : (bs out : List ℕ) (r s : Option ℕ) (o o' : List ℕ) → Shows bs out r o → Shows bs out s o' → (r ≡ s) × (o ≡ o')
+shows_once bs out (Some k) (Some j) o o' p q =
     let e : p.1.text ≡ q.1.text = text_once bs p.1.text q.1.text p.1.right q.1.right in
-    (ap Shown.Text (p.1.long ∙ ap length e ∙ sym q.1.long), p.1.put ∙ ap (λ (t : List ℕ). over t out) e ∙ sym q.1.put)
-shows_once bs out (Shown.Text k) Shown.TooShort o o' p q = absurd (omega (arith, p.0, q.0))
-shows_once bs out Shown.TooShort (Shown.Text j) o o' p q = absurd (omega (arith, p.0, q.0))
-shows_once bs out Shown.TooShort Shown.TooShort o o' p q = (refl, p.1 ∙ sym q.1)
-
--- a text lies within its area
-pub leaves_fit : {Right : List ℕ → Type 0} {out : List ℕ} {k : ℕ} {out' : List ℕ} → Leaves Right out k out' → length out' ≡ length out → k ≤ length out
-leaves_fit {out = out} {out' = out'} p l = omega (arith, p.long, items_fit p.text out out' p.put l)
+    (ap (λ (k : ℕ). Some k) (p.1.long ∙ ap length e ∙ sym q.1.long), p.1.put ∙ ap (λ (t : List ℕ). over t out) e ∙ sym q.1.put)
+shows_once bs out (Some k) None o o' p q = absurd (omega (arith, p.0, q.0))
+shows_once bs out None (Some j) o o' p q = absurd (omega (arith, p.0, q.0))
+shows_once bs out None None o o' p q = (refl, p.1 ∙ sym q.1)

@@ -1,6 +1,6 @@
 -- What the library promises: the text that the list of a book has by its meaning, at the front of the lent area, with the text's length.
 -- bs is the book's bytes; out is the lent area before the call, out' after it.
-use Rattle.std.specs.Prelude.{◌≡◌, ◌⊎◌, List, ℕ, ◌≤◌, ◌<◌, length}
+use Rattle.std.specs.Prelude.{◌≡◌, ◌⊎◌, List, ℕ, ◌≤◌, ◌<◌, length, Option, Some, None}
 use Rattle.meaning.specs.Codes.{late, early}
 use Rattle.meaning.specs.Rules.{rules}
 use Rattle.meaning.specs.Rotas.{First, Forced}
@@ -9,7 +9,6 @@ use Rattle.meaning.specs.Sizes.{words_room, over}
 use Rattle.meaning.specs.Refusals.{Due, none, refused}
 use Rattle.meaning.specs.Promises.{Each}
 use Rattle.book.specs.Checks.{choices_in, codes_in, book_due}
-use Rattle.lines.specs.declared.answer.Shown.{Shown}
 use Rattle.text.specs.Text.{text_needs, possible_text, impossible_text, refusal_text}
 
 -- the list is possible, and the text is that of its first rota and its forced bytes
@@ -51,6 +50,6 @@ pub record Leaves (Right : List ℕ → Type 0) (out : List ℕ) (k : ℕ) (out'
   pub put : out' ≡ over text out
 
 -- an area that is long enough for every text gets the book's; one that is not stays
-abbrev pub Shows : List ℕ → List ℕ → Shown → List ℕ → Type 0
-Shows bs out (Shown.Text k) out' = (text_needs ≤ length out) × Leaves (BookText bs) out k out'
-Shows bs out Shown.TooShort out' = (length out < text_needs) × (out' ≡ out)
+abbrev pub Shows : List ℕ → List ℕ → Option ℕ → List ℕ → Type 0
+Shows bs out (Some k) out' = (text_needs ≤ length out) × Leaves (BookText bs) out k out'
+Shows bs out None out' = (length out < text_needs) × (out' ≡ out)

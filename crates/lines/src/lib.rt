@@ -4,7 +4,7 @@
 
 mod answer; // the book read, the list answered
 
-pub use answer::{Shown, show};
+pub use answer::show;
 
 // The least length of the area that the text is written to: no text is longer.
 pub const ROOM: usize = 5200;

@@ -6,38 +6,31 @@ use mathlib.Core.List.{List, [], ◌∷◌}
 use Prim.Native.Nat.{ℕ}
 use lib.ListN.{length, take, drop}
 use lib.Seq.{take_at}
+use Rattle.std.specs.Prelude.{Result, Ok}
 use Rattle.meaning.specs.declared.answers.Decided.{Decided}
 use Rattle.meaning.specs.declared.answers.Moved.{Moved}
+use Rattle.meaning.specs.declared.refusal.Refusal.{Refusal}
 use Rattle.meaning.specs.Order.{Before}
-use Rattle.meaning.specs.Promises.{Answered, After, Decides, Moves}
-use Rattle.meaning.specs.Refusals.{Due, refused, list_due, next_due}
+use Rattle.meaning.specs.Promises.{Decides, Moves}
 use Rattle.meaning.specs.Rotas.{Allowed, First, Next, Ended}
 use Rattle.meaning.specs.Runs.{Follow, InOrder, GoesOn, RunOf, Run, OneOf, Ascending, EveryRota}
-use Rattle.meaning.specs.Sizes.{rota_needs}
-use Rattle.meaning.proofs.RefusalLaws.{not_refused}
 use Rattle.meaning.proofs.OrderLaws.{before_trans, ordered}
 
--- where nothing is due, an answer says what it says
-pub answered : {says : List ℕ → Type 0} {n : ℕ} {ws area work area' work' : List ℕ} (due : Due) → Due.none ≡ due →
-    After due says n ws area work area' work' → Answered says n ws area work area' work'
-answered Due.none e h = h
-answered (refused number place) e h = absurd (not_refused number place e)
-
 -- what Decide and Next leave at the front of the rota's area is the rota that they say
-pub decided_first : {n : ℕ} {ws area work area' work' : List ℕ} → Decides n ws area work Decided.Possible area' work' → First n ws (take n area')
+pub decided_first : {n : ℕ} {ws area work area' work' : List ℕ} → Decides n ws area work (Ok Decided.Possible) area' work' → First n ws (take n area')
 decided_first {n} {ws} {area} {work} {area'} {work'} p =
-    let a = answered (list_due n ws (length area) (rota_needs n) (length work)) p.refuses p.after in
+    let a = p.after in
     rw (a.written, take_at a.items (drop (length a.items) area) n a.right.allowed.rota.long) a.right
 
 -- Next: the next one
-pub moved_next : {n : ℕ} {ws area work area' work' : List ℕ} → Moves n ws area work Moved.Moved area' work' → Next n ws (take n area) (take n area')
+pub moved_next : {n : ℕ} {ws area work area' work' : List ℕ} → Moves n ws area work (Ok Moved.Moved) area' work' → Next n ws (take n area) (take n area')
 moved_next {n} {ws} {area} {work} {area'} {work'} p =
-    let a = answered (next_due n ws area (length work)) p.refuses p.after in
+    let a = p.after in
     rw (a.written, take_at a.items (drop (length a.items) area) n a.right.allowed.rota.long) a.right
 
 -- Ended: none comes after
-pub ended_ended : {n : ℕ} {ws area work area' work' : List ℕ} → Moves n ws area work Moved.Ended area' work' → Ended n ws (take n area)
-ended_ended {n} {ws} {area} {work} p = (answered (next_due n ws area (length work)) p.refuses p.after).right.1
+pub ended_ended : {n : ℕ} {ws area work area' work' : List ℕ} → Moves n ws area work (Ok Moved.Ended) area' work' → Ended n ws (take n area)
+ended_ended p = p.after.right.1
 
 -- the rotas of a run are in order
 goes_on : (n : ℕ) (ws area : List ℕ) (rs : List (List ℕ)) → GoesOn n (Moves n ws) area rs → Follow n ws (take n area) rs
@@ -92,9 +85,9 @@ pub every_rota_once : (n : ℕ) (ws r : List ℕ) (rs : List (List ℕ)) → Run
 every_rota_once n ws r rs p = in_order_every n ws r rs (run_in_order n ws r rs p)
 
 -- Whatever is known of the calls of a run, if it tells their promises.
-module _ {ℓ} (n : ℕ) (ws : List ℕ) (decide : List ℕ → List ℕ → Decided → List ℕ → List ℕ → Type ℓ) (next : List ℕ → List ℕ → Moved → List ℕ → List ℕ → Type ℓ)
-    (decide_keeps : (area work : List ℕ) (a : Decided) (area' work' : List ℕ) → decide area work a area' work' → Decides n ws area work a area' work')
-    (next_keeps : (area work : List ℕ) (a : Moved) (area' work' : List ℕ) → next area work a area' work' → Moves n ws area work a area' work') where
+module _ {ℓ} (n : ℕ) (ws : List ℕ) (decide : List ℕ → List ℕ → Result Decided Refusal → List ℕ → List ℕ → Type ℓ) (next : List ℕ → List ℕ → Result Moved Refusal → List ℕ → List ℕ → Type ℓ)
+    (decide_keeps : (area work : List ℕ) (a : Result Decided Refusal) (area' work' : List ℕ) → decide area work a area' work' → Decides n ws area work a area' work')
+    (next_keeps : (area work : List ℕ) (a : Result Moved Refusal) (area' work' : List ℕ) → next area work a area' work' → Moves n ws area work a area' work') where
   calls_go_on : (area : List ℕ) (rs : List (List ℕ)) → GoesOn n next area rs → GoesOn n (Moves n ws) area rs
   calls_go_on area [] c = (c.0, c.1, c.2, next_keeps _ _ _ _ _ c.3)
   calls_go_on area (r ∷ rs) c = (c.0, c.1, c.2, next_keeps _ _ _ _ _ c.3, c.4, calls_go_on c.1 rs c.5)

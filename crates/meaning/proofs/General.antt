@@ -2,13 +2,12 @@
 use mathlib.Core.Path.{◌≡◌, refl, sym, ap, ◌∙◌, subst}
 use mathlib.Core.Logic.{◌⊎◌, inl, inr, ⊎_elim, ◌≢◌}
 use mathlib.Core.List.{List, [], ◌∷◌}
-use Prim.Native.Nat.{ℕ, zero, suc, ◌+◌, ◌-◌, ◌≤◌, ◌<◌}
+use Prim.Native.Nat.{ℕ, zero, suc, ◌-◌, ◌≤◌, ◌<◌}
 use native.Mathlib.Omega.{arith}
 use native.Mathlib.Nat.{le_of_suc-le-suc, not-suc-le-zero}
 use native.Mathlib.Decide.{dec_lt, ℕ_discrete}
-use native.Mathlib.Numerals.{add-one}
 use lib.ListN.{length, get_or, take, drop, length-drop}
-use lib.Seq.{drop-cons, take_all}
+use lib.Seq.{take_all}
 
 -- two numbers: the first is less, or equal, or greater
 pub compared : (a b : ℕ) → (a < b) ⊎ ((a ≡ b) ⊎ (b < a))
@@ -63,10 +62,6 @@ least_below P d (suc m) = go (least_below P d m) (d m)
 -- so if some number has it, there is a least
 pub least_of : (P : ℕ → Type 0) → ((k : ℕ) → Dec (P k)) → (m : ℕ) → P m → Least P
 least_of P d m p = ⊎_elim (λ h. h) (λ none. absurd (none m (omega arith) p)) (least_below P d (suc m))
-
--- what stands from a place on: the item there, and what stands from the next place on
-pub drop_next : (l : List ℕ) (j : ℕ) → j < length l → drop j l ≡ get_or l j 0 ∷ drop (j + 1) l
-drop_next l j h = rw (add-one, drop-cons l j 0)
 
 -- the list f 0, f 1, .., f (n - 1)
 abbrev pub build : ℕ → (ℕ → ℕ) → List ℕ
@@ -127,9 +122,6 @@ distinct_length (suc n) xs d h =
     let w = without n xs d h in
     omega (arith, w.3, distinct_length n w.0 w.1 (λ y m. (w.2 y m).1))
 
--- the part of a list that is lent on from a place is all that stands from there on, and as long
+-- the part of a list that is lent on from a place is all that stands from there on
 pub lent_on : {A : Type 0} (xs : List A) (from : ℕ) → take (length xs - from) (drop from xs) ≡ drop from xs
 lent_on xs from = take_all (length xs - from) (drop from xs) (omega (arith, length-drop from xs))
-
-pub lent_long : {A : Type 0} (xs : List A) (from : ℕ) → length (take (length xs - from) (drop from xs)) ≡ length xs - from
-lent_long xs from = ap length (lent_on xs from) ∙ length-drop from xs

@@ -5,6 +5,7 @@ use Prim.Native.Nat.{ℕ}
 use native.Mathlib.Omega.{arith}
 use lib.ListN.{length, take}
 use lib.Seq.{ext_get_or}
+use Rattle.std.specs.Prelude.{Result, Ok, Err}
 use Rattle.meaning.specs.declared.codes.Choice.{Choice}
 use Rattle.meaning.specs.declared.answers.Decided.{Decided}
 use Rattle.meaning.specs.declared.answers.Listed.{Listed}
@@ -12,44 +13,36 @@ use Rattle.meaning.specs.declared.answers.Clashed.{Clashed}
 use Rattle.meaning.specs.declared.answers.Moved.{Moved}
 use Rattle.meaning.specs.Chains.{Tie}
 use Rattle.meaning.specs.Codes.{late, early}
-use Rattle.meaning.specs.Promises.{After, Keeps, decided_refusal, DecideSays, Decides, listed_refusal, ListedSays, Forces, TiesUp, clashed_refusal, BothChains, ClashSays, Clashes, moved_refusal, NextSays, Moves}
-use Rattle.meaning.specs.Refusals.{Due, none, refused, list_due, next_due}
+use Rattle.meaning.specs.declared.refusal.Refusal.{Refusal}
+use Rattle.meaning.specs.Promises.{Keeps, DecideSays, Decides, ListedSays, Forces, TiesUp, BothChains, ClashSays, Clashes, NextSays, Moves}
+use Rattle.meaning.specs.Refusals.{number_of, place_of, Due, as_due, list_due, next_due}
 use Rattle.meaning.specs.Rotas.{Allowed, Forced}
 use Rattle.meaning.specs.Sizes.{rota_needs, chains_need, ties_need, over}
 use Rattle.meaning.proofs.ChainLaws.{clash_impossible}
-use Rattle.meaning.proofs.RefusalLaws.{named, due_named}
-use Rattle.meaning.proofs.RefusalLaws.{not_refused}
+use Rattle.meaning.proofs.RefusalLaws.{due_named, not_refused}
 use Rattle.meaning.proofs.Unique.{first_unique, next_unique, next_not_ended, forced_unique, shortest_unique, lowest_unique, tie_unique}
 
 -- an answer and the two areas after the call
 abbrev pub Same : {A : Type 0} → A → List ℕ → List ℕ → A → List ℕ → List ℕ → Type 0
 Same a area₁ work₁ b area₂ work₂ = (a ≡ b) × (area₁ ≡ area₂) × (work₁ ≡ work₂)
 
--- The form that all calls share: what a call says fixes its answer and its items, and a refusal fixes the answer.
-module _ {A : Type 0} (refusal : A → Due) (says : A → List ℕ → Type 0) (once : (a b : A) (xs ys : List ℕ) → says a xs → says b ys → (a ≡ b) × (xs ≡ ys))
-    (refuses : (a b : A) (number place : ℕ) → refusal a ≡ refused number place → refusal b ≡ refused number place → a ≡ b) (n : ℕ) (ws area work : List ℕ) where
-  -- what is due decides
-  after_once : (due : Due) (a b : A) (area₁ work₁ area₂ work₂ : List ℕ) → refusal a ≡ due → refusal b ≡ due →
-      After due (says a) n ws area work area₁ work₁ → After due (says b) n ws area work area₂ work₂ → Same a area₁ work₁ b area₂ work₂
-  after_once none a b area₁ work₁ area₂ work₂ e f p q =
-      let o = once a b p.items q.items p.right q.right in
-      (o.0, p.written ∙ ap (λ (xs : List ℕ). over xs area) o.1 ∙ sym q.written, p.zeros ∙ sym q.zeros)
-  after_once (refused number place) a b area₁ work₁ area₂ work₂ e f p q =
-      (refuses a b number place e f, p.area_stays ∙ sym q.area_stays, p.work_stays ∙ sym q.work_stays)
+-- refusals of one number and place are one
+same_refused : (r s : Refusal) → as_due r ≡ as_due s → r ≡ s
+same_refused r s e = due_named r (number_of s) (place_of s) e ∙ sym (due_named s (number_of s) (place_of s) refl)
 
-  -- so two outcomes of a call that keeps its promise coincide
-  pub keeps_once : (due : Due) (a b : A) (area₁ work₁ area₂ work₂ : List ℕ) → Keeps refusal says due n ws area work a area₁ work₁ →
-      Keeps refusal says due n ws area work b area₂ work₂ → Same a area₁ work₁ b area₂ work₂
-  keeps_once due a b area₁ work₁ area₂ work₂ p q =
-      after_once due a b area₁ work₁ area₂ work₂ p.refuses q.refuses p.after q.after
+-- The form that all calls share: what a call says fixes its answer and its items, and what is due fixes its refusal.
+module _ {A : Type 0} (says : A → List ℕ → Type 0) (once : (a b : A) (xs ys : List ℕ) → says a xs → says b ys → (a ≡ b) × (xs ≡ ys)) (n : ℕ) (ws area work : List ℕ) where
+  pub keeps_once : (due : Due) (a b : Result A Refusal) (area₁ work₁ area₂ work₂ : List ℕ) → Keeps says due n ws area work a area₁ work₁ →
+      Keeps says due n ws area work b area₂ work₂ → Same a area₁ work₁ b area₂ work₂
+  keeps_once due (Ok a) (Ok b) area₁ work₁ area₂ work₂ p q =
+      let o = once a b p.after.items q.after.items p.after.right q.after.right in
+      (ap Ok o.0, p.after.written ∙ ap (λ (xs : List ℕ). over xs area) o.1 ∙ sym q.after.written, p.after.zeros ∙ sym q.after.zeros)
+  keeps_once due (Ok a) (Err s) area₁ work₁ area₂ work₂ p q = absurd (not_refused (number_of s) (place_of s) (p.refuses ∙ sym q.refuses))
+  keeps_once due (Err r) (Ok b) area₁ work₁ area₂ work₂ p q = absurd (not_refused (number_of r) (place_of r) (q.refuses ∙ sym p.refuses))
+  keeps_once due (Err r) (Err s) area₁ work₁ area₂ work₂ p q =
+      (ap Err (same_refused r s (p.refuses ∙ sym q.refuses)), p.after.area_stays ∙ sym q.after.area_stays, p.after.work_stays ∙ sym q.after.work_stays)
 
 -- Decide
-
--- a refusal tells the answer
-decided_refuses : (a : Decided) (number place : ℕ) → decided_refusal a ≡ refused number place → a ≡ Decided.Refused (named number place)
-decided_refuses Decided.Possible number place e = absurd (not_refused number place e)
-decided_refuses (Decided.Impossible v) number place e = absurd (not_refused number place e)
-decided_refuses (Decided.Refused r) number place e = ap Decided.Refused (due_named r number place e)
 
 -- two choices with one number are one
 same_choice : (u v : Choice) → u.0 ≡ v.0 → u ≡ v
@@ -60,28 +53,19 @@ module _ (n : ℕ) (ws : List ℕ) where
   pub decide_once : (a b : Decided) (xs ys : List ℕ) → DecideSays n ws a xs → DecideSays n ws b ys → (a ≡ b) × (xs ≡ ys)
   decide_once Decided.Possible Decided.Possible xs ys p q = (refl, first_unique n ws xs ys p q)
   decide_once Decided.Possible (Decided.Impossible v) xs ys p q = absurd (clash_impossible n ws v.0 q.0.clash xs p.allowed)
-  decide_once Decided.Possible (Decided.Refused r) xs ys p q = absurd q
   decide_once (Decided.Impossible v) Decided.Possible xs ys p q = absurd (clash_impossible n ws v.0 p.0.clash ys q.allowed)
   decide_once (Decided.Impossible u) (Decided.Impossible v) xs ys p q =
       (ap Decided.Impossible (same_choice u v (lowest_unique ws u.0 v.0 p.0 q.0)), p.1 ∙ sym q.1)
-  decide_once (Decided.Impossible v) (Decided.Refused r) xs ys p q = absurd q
-  decide_once (Decided.Refused r) b xs ys p q = absurd p
 
   -- so Decide has one outcome
-  pub decides_once : (area work : List ℕ) (a b : Decided) (area₁ work₁ area₂ work₂ : List ℕ) → Decides n ws area work a area₁ work₁ →
+  pub decides_once : (area work : List ℕ) (a b : Result Decided Refusal) (area₁ work₁ area₂ work₂ : List ℕ) → Decides n ws area work a area₁ work₁ →
       Decides n ws area work b area₂ work₂ → Same a area₁ work₁ b area₂ work₂
   decides_once area work =
-      keeps_once decided_refusal (DecideSays n ws) decide_once
-      (λ a b k p e f. decided_refuses a k p e ∙ sym (decided_refuses b k p f)) n ws area work
+      keeps_once (DecideSays n ws) decide_once
+      n ws area work
       (list_due n ws (length area) (rota_needs n) (length work))
 
 -- Forced and Ties
-
--- a refusal tells the answer
-listed_refuses : (a : Listed) (number place : ℕ) → listed_refusal a ≡ refused number place → a ≡ Listed.Refused (named number place)
-listed_refuses Listed.Done number place e = absurd (not_refused number place e)
-listed_refuses Listed.Impossible number place e = absurd (not_refused number place e)
-listed_refuses (Listed.Refused r) number place e = ap Listed.Refused (due_named r number place e)
 
 module _ (n : ℕ) (ws : List ℕ) (Item : ℕ → ℕ → Type 0) (unique : (r : List ℕ) → Allowed n ws r → (v x y : ℕ) → Item v x → Item v y → x ≡ y) where
   -- what the answer says tells the answer and the list
@@ -92,39 +76,30 @@ module _ (n : ℕ) (ws : List ℕ) (Item : ℕ → ℕ → Type 0) (unique : (r 
         unique p.0.0 p.0.1 v _ _ (p.1.each v (omega (arith, p.1.long))) (q.1.each v (omega (arith, p.1.long)))),
   )
   listed_once Listed.Done Listed.Impossible xs ys p q = absurd (q.0 p.0.0 p.0.1)
-  listed_once Listed.Done (Listed.Refused r) xs ys p q = absurd q
   listed_once Listed.Impossible Listed.Done xs ys p q = absurd (p.0 q.0.0 q.0.1)
   listed_once Listed.Impossible Listed.Impossible xs ys p q = (refl, p.1 ∙ sym q.1)
-  listed_once Listed.Impossible (Listed.Refused r) xs ys p q = absurd q
-  listed_once (Listed.Refused r) b xs ys p q = absurd p
 
   -- so a call that answers a list has one outcome
-  each_once : (area work : List ℕ) (due : Due) (a b : Listed) (area₁ work₁ area₂ work₂ : List ℕ) →
-      Keeps listed_refusal (ListedSays n ws Item) due n ws area work a area₁ work₁ → Keeps listed_refusal (ListedSays n ws Item) due n ws area work b area₂ work₂ →
+  each_once : (area work : List ℕ) (due : Due) (a b : Result Listed Refusal) (area₁ work₁ area₂ work₂ : List ℕ) →
+      Keeps (ListedSays n ws Item) due n ws area work a area₁ work₁ → Keeps (ListedSays n ws Item) due n ws area work b area₂ work₂ →
       Same a area₁ work₁ b area₂ work₂
   each_once area work =
-      keeps_once listed_refusal (ListedSays n ws Item) listed_once (λ a b k p e f. listed_refuses a k p e ∙ sym (listed_refuses b k p f)) n ws area work
+      keeps_once (ListedSays n ws Item) listed_once n ws area work
 
 module _ (n : ℕ) (ws : List ℕ) where
   -- Forced
-  pub forces_once : (area work : List ℕ) (a b : Listed) (area₁ work₁ area₂ work₂ : List ℕ) → Forces n ws area work a area₁ work₁ →
+  pub forces_once : (area work : List ℕ) (a b : Result Listed Refusal) (area₁ work₁ area₂ work₂ : List ℕ) → Forces n ws area work a area₁ work₁ →
       Forces n ws area work b area₂ work₂ → Same a area₁ work₁ b area₂ work₂
   forces_once area work =
       each_once n ws (Forced n ws) (λ r ok v x y p q. forced_unique n ws v x y r ok p q) area work (list_due n ws (length area) (rota_needs n) (length work))
 
   -- Ties
-  pub ties_once : (area work : List ℕ) (a b : Listed) (area₁ work₁ area₂ work₂ : List ℕ) → TiesUp n ws area work a area₁ work₁ →
+  pub ties_once : (area work : List ℕ) (a b : Result Listed Refusal) (area₁ work₁ area₂ work₂ : List ℕ) → TiesUp n ws area work a area₁ work₁ →
       TiesUp n ws area work b area₂ work₂ → Same a area₁ work₁ b area₂ work₂
   ties_once area work =
       each_once n ws (Tie ws) (λ r ok v x y p q. tie_unique ws v x y p q) area work (list_due n ws (length area) (ties_need n) (length work))
 
 -- Clash
-
--- a refusal tells the answer
-clashed_refuses : (a : Clashed) (number place : ℕ) → clashed_refusal a ≡ refused number place → a ≡ Clashed.Refused (named number place)
-clashed_refuses (Clashed.Chains v i j) number place e = absurd (not_refused number place e)
-clashed_refuses Clashed.Possible number place e = absurd (not_refused number place e)
-clashed_refuses (Clashed.Refused r) number place e = ap Clashed.Refused (due_named r number place e)
 
 module _ (n : ℕ) (ws : List ℕ) where
   -- the choice that clashes tells its chains
@@ -143,27 +118,17 @@ module _ (n : ℕ) (ws : List ℕ) where
   pub clash_once : (a b : Clashed) (xs ys : List ℕ) → ClashSays n ws a xs → ClashSays n ws b ys → (a ≡ b) × (xs ≡ ys)
   clash_once (Clashed.Chains u i j) (Clashed.Chains v k l) xs ys p q = chains_once u v i j k l xs ys p q
   clash_once (Clashed.Chains u i j) Clashed.Possible xs ys p q = absurd (clash_impossible n ws u.0 p.lowest.clash q.0.0 q.0.1)
-  clash_once (Clashed.Chains u i j) (Clashed.Refused r) xs ys p q = absurd q
   clash_once Clashed.Possible (Clashed.Chains v k l) xs ys p q = absurd (clash_impossible n ws v.0 q.lowest.clash p.0.0 p.0.1)
   clash_once Clashed.Possible Clashed.Possible xs ys p q = (refl, p.1 ∙ sym q.1)
-  clash_once Clashed.Possible (Clashed.Refused r) xs ys p q = absurd q
-  clash_once (Clashed.Refused r) b xs ys p q = absurd p
 
   -- so Clash has one outcome
-  pub clashes_once : (area work : List ℕ) (a b : Clashed) (area₁ work₁ area₂ work₂ : List ℕ) → Clashes n ws area work a area₁ work₁ →
+  pub clashes_once : (area work : List ℕ) (a b : Result Clashed Refusal) (area₁ work₁ area₂ work₂ : List ℕ) → Clashes n ws area work a area₁ work₁ →
       Clashes n ws area work b area₂ work₂ → Same a area₁ work₁ b area₂ work₂
   clashes_once area work =
-      keeps_once clashed_refusal (ClashSays n ws) clash_once (λ a b k p e f. clashed_refuses a k p e ∙ sym (clashed_refuses b k p f)) n ws area work
+      keeps_once (ClashSays n ws) clash_once n ws area work
       (list_due n ws (length area) (chains_need n) (length work))
 
 -- Next
-
--- a refusal tells the answer
-moved_refuses : (a : Moved) (number place : ℕ) → moved_refusal a ≡ refused number place → a ≡ Moved.Refused (named number place)
-moved_refuses Moved.Moved number place e = absurd (not_refused number place e)
-moved_refuses Moved.Ended number place e = absurd (not_refused number place e)
-moved_refuses Moved.Impossible number place e = absurd (not_refused number place e)
-moved_refuses (Moved.Refused r) number place e = ap Moved.Refused (due_named r number place e)
 
 module _ (n : ℕ) (ws : List ℕ) where
   -- what the answer says tells the answer and the rota
@@ -171,20 +136,16 @@ module _ (n : ℕ) (ws : List ℕ) where
   next_once rota Moved.Moved Moved.Moved xs ys p q = (refl, next_unique n ws rota xs ys p q)
   next_once rota Moved.Moved Moved.Ended xs ys p q = absurd (next_not_ended n ws rota xs p q.1)
   next_once rota Moved.Moved Moved.Impossible xs ys p q = absurd (q.0 xs p.allowed)
-  next_once rota Moved.Moved (Moved.Refused r) xs ys p q = absurd q
   next_once rota Moved.Ended Moved.Moved xs ys p q = absurd (next_not_ended n ws rota ys q p.1)
   next_once rota Moved.Ended Moved.Ended xs ys p q = (refl, p.2 ∙ sym q.2)
   next_once rota Moved.Ended Moved.Impossible xs ys p q = absurd (q.0 p.0.0 p.0.1)
-  next_once rota Moved.Ended (Moved.Refused r) xs ys p q = absurd q
   next_once rota Moved.Impossible Moved.Moved xs ys p q = absurd (p.0 ys q.allowed)
   next_once rota Moved.Impossible Moved.Ended xs ys p q = absurd (p.0 q.0.0 q.0.1)
   next_once rota Moved.Impossible Moved.Impossible xs ys p q = (refl, p.1 ∙ sym q.1)
-  next_once rota Moved.Impossible (Moved.Refused r) xs ys p q = absurd q
-  next_once rota (Moved.Refused r) b xs ys p q = absurd p
 
   -- so Next has one outcome
-  pub moves_once : (area work : List ℕ) (a b : Moved) (area₁ work₁ area₂ work₂ : List ℕ) → Moves n ws area work a area₁ work₁ →
+  pub moves_once : (area work : List ℕ) (a b : Result Moved Refusal) (area₁ work₁ area₂ work₂ : List ℕ) → Moves n ws area work a area₁ work₁ →
       Moves n ws area work b area₂ work₂ → Same a area₁ work₁ b area₂ work₂
   moves_once area work =
-      keeps_once moved_refusal (NextSays n ws (take n area)) (next_once (take n area)) (λ a b k p e f. moved_refuses a k p e ∙ sym (moved_refuses b k p f)) n ws area work
+      keeps_once (NextSays n ws (take n area)) (next_once (take n area)) n ws area work
       (next_due n ws area (length work))

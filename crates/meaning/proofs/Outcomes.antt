@@ -1,5 +1,5 @@
 -- Every question has an answer: each promise allows an outcome, whatever it is given. With Once, each allows exactly one.
-use mathlib.Core.Path.{◌≡◌, refl, ap, ◌∙◌}
+use mathlib.Core.Path.{◌≡◌, refl, ap}
 use mathlib.Core.Bool.{true, false}
 use mathlib.Core.Logic.{⊎_elim}
 use mathlib.Core.List.{List, [], ◌∷◌, ◌++◌}
@@ -7,6 +7,7 @@ use Prim.Native.Nat.{ℕ, zero, suc, ◌≤◌, ◌<◌}
 use native.Mathlib.Omega.{arith}
 use lib.ListN.{length, get_or, take, get_or-eq_default}
 use lib.Seq.{length-take-le}
+use Rattle.std.specs.Prelude.{Result, Ok, Err}
 use Rattle.meaning.specs.declared.refusal.Refusal.{Refusal}
 use Rattle.meaning.specs.declared.answers.Decided.{Decided}
 use Rattle.meaning.specs.declared.answers.Listed.{Listed}
@@ -14,7 +15,7 @@ use Rattle.meaning.specs.declared.answers.Clashed.{Clashed}
 use Rattle.meaning.specs.declared.answers.Moved.{Moved}
 use Rattle.meaning.specs.Chains.{Clash, LowestClash, Tie}
 use Rattle.meaning.specs.Codes.{late, early}
-use Rattle.meaning.specs.Promises.{Keeps, decided_refusal, DecideSays, Decides, listed_refusal, Each, ListedSays, Forces, TiesUp, clashed_refusal, ClashSays, Clashes, moved_refusal, NextSays, Moves}
+use Rattle.meaning.specs.Promises.{Keeps, DecideSays, Decides, Each, ListedSays, Forces, TiesUp, ClashSays, Clashes, NextSays, Moves}
 use Rattle.meaning.specs.Refusals.{Due, refused, as_due, Check, check, first_of, list_checks, next_checks, list_due, next_due}
 use Rattle.meaning.specs.Rotas.{Rota, Forced}
 use Rattle.meaning.specs.Rules.{InRange}
@@ -45,23 +46,23 @@ next_named : (n : ℕ) (ws rota : List ℕ) (work number place : ℕ) → next_d
 unfolding next_due
 next_named n ws rota work = due_is_named (next_checks n ws rota work) (refl, (refl, (refl, (refl, (refl, (refl, (refl, tt)))))))
 
--- an answer of a call that carries no refusal, and what it says
-abbrev pub Saying : {A : Type 0} → (A → Due) → (A → List ℕ → Type 0) → Type 0
-Saying {A} refusal says = (a : A) × (refusal a ≡ Due.none) × ((xs : List ℕ) × says a xs)
+-- an answer of a call, and what it says
+abbrev pub Saying : {A : Type 0} → (A → List ℕ → Type 0) → Type 0
+Saying {A} says = (a : A) × ((xs : List ℕ) × says a xs)
 
 -- an outcome of a call
-abbrev pub Outcome : (A : Type 0) → (A → List ℕ → List ℕ → Type 0) → Type 0
-Outcome A promise = (a : A) × (area' : List ℕ) × (work' : List ℕ) × promise a area' work'
+abbrev pub Outcome : (A : Type 0) → (Result A Refusal → List ℕ → List ℕ → Type 0) → Type 0
+Outcome A promise = (a : Result A Refusal) × (area' : List ℕ) × (work' : List ℕ) × promise a area' work'
 
-module _ {A : Type 0} (refusal : A → Due) (says : A → List ℕ → Type 0) (refuse : Refusal → A) (carries : (r : Refusal) → refusal (refuse r) ≡ as_due r) (n : ℕ) (ws area work : List ℕ) where
+module _ {A : Type 0} (says : A → List ℕ → Type 0) (n : ℕ) (ws area work : List ℕ) where
   -- what is due decides
   keeps_exists : (due : Due) → ((number place : ℕ) → due ≡ refused number place → as_due (named number place) ≡ refused number place) →
-      (due ≡ Due.none → Saying refusal says) → Outcome A (Keeps refusal says due n ws area work)
+      (due ≡ Due.none → Saying says) → Outcome A (Keeps says due n ws area work)
   keeps_exists Due.none names answer =
       let s = answer refl in
-      (s.0, over s.2.0 area, cleared n ws work, record { refuses = s.1; after = record { items = s.2.0; right = s.2.1; written = refl; zeros = refl } })
+      (Ok s.0, over s.1.0 area, cleared n ws work, record { refuses = refl; after = record { items = s.1.0; right = s.1.1; written = refl; zeros = refl } })
   keeps_exists (refused number place) names answer =
-      (refuse (named number place), area, work, record { refuses = carries (named number place) ∙ names number place refl; after = record { area_stays = refl; work_stays = refl } })
+      (Err (named number place), area, work, record { refuses = names number place refl; after = record { area_stays = refl; work_stays = refl } })
 
 -- the possible list: what holds of each choice, as a list
 each_exists : (Item : ℕ → ℕ → Type 0) (n : ℕ) → ((v : ℕ) → v < n → (x : ℕ) × Item v x) → (xs : List ℕ) × Each n Item xs
@@ -79,20 +80,20 @@ module _ (n : ℕ) (ws area work : List ℕ) where
   -- Decide
   pub decides_exists : Outcome Decided (Decides n ws area work)
   decides_exists =
-      keeps_exists decided_refusal (DecideSays n ws) Decided.Refused (λ r. refl) n ws area work (list_due n ws (length area) (rota_needs n) (length work))
+      keeps_exists (DecideSays n ws) n ws area work (list_due n ws (length area) (rota_needs n) (length work))
       (list_named n ws (length area) (rota_needs n) (length work))
-      (λ e. ⊎_elim (λ f. (Decided.Possible, refl, (f.0, f.1))) (λ c. (Decided.Impossible (record { 0 = c.0 }), refl, ([], (c.2, refl))))
+      (λ e. ⊎_elim (λ f. (Decided.Possible, (f.0, f.1))) (λ c. (Decided.Impossible (record { 0 = c.0 }), ([], (c.2, refl))))
       (possible_or_clash n ws (accepted n ws (length area) (rota_needs n) (length work) e).range))
 
   -- a call that answers a list
   listed_exists : (Item : ℕ → ℕ → Type 0) (needs : ℕ) → (InRange n ws → ((v : ℕ) → v < n → Clash ws v → ⊥) → (v : ℕ) → v < n → (x : ℕ) × Item v x) →
-      Outcome Listed (Keeps listed_refusal (ListedSays n ws Item) (list_due n ws (length area) needs (length work)) n ws area work)
+      Outcome Listed (Keeps (ListedSays n ws Item) (list_due n ws (length area) needs (length work)) n ws area work)
   listed_exists Item needs item =
-      keeps_exists listed_refusal (ListedSays n ws Item) Listed.Refused (λ r. refl) n ws area work (list_due n ws (length area) needs (length work))
+      keeps_exists (ListedSays n ws Item) n ws area work (list_due n ws (length area) needs (length work))
       (list_named n ws (length area) needs (length work))
       (λ e. let range = (accepted n ws (length area) needs (length work) e).range in
-      ⊎_elim (λ f. let xs = each_exists Item n (item range (possible_free n ws (f.0, f.1.allowed))) in (Listed.Done, refl, (xs.0, ((f.0, f.1.allowed), xs.1))))
-      (λ c. (Listed.Impossible, refl, ([], (clash_impossible n ws c.0 c.2.clash, refl))))
+      ⊎_elim (λ f. let xs = each_exists Item n (item range (possible_free n ws (f.0, f.1.allowed))) in (Listed.Done, (xs.0, ((f.0, f.1.allowed), xs.1))))
+      (λ c. (Listed.Impossible, ([], (clash_impossible n ws c.0 c.2.clash, refl))))
       (possible_or_clash n ws range))
 
   -- Forced
@@ -106,24 +107,23 @@ module _ (n : ℕ) (ws area work : List ℕ) where
   -- Clash
   pub clashes_exists : Outcome Clashed (Clashes n ws area work)
   clashes_exists =
-      keeps_exists clashed_refusal (ClashSays n ws) Clashed.Refused (λ r. refl) n ws area work (list_due n ws (length area) (chains_need n) (length work))
+      keeps_exists (ClashSays n ws) n ws area work (list_due n ws (length area) (chains_need n) (length work))
       (list_named n ws (length area) (chains_need n) (length work))
-      (λ e. ⊎_elim (λ f. (Clashed.Possible, refl, ([], ((f.0, f.1.allowed), refl)))) (λ c. both c.0 c.2)
+      (λ e. ⊎_elim (λ f. (Clashed.Possible, ([], ((f.0, f.1.allowed), refl)))) (λ c. both c.0 c.2)
       (possible_or_clash n ws (accepted n ws (length area) (chains_need n) (length work) e).range))
     where
-      both : (v : ℕ) → LowestClash ws v → Saying clashed_refusal (ClashSays n ws)
+      both : (v : ℕ) → LowestClash ws v → Saying (ClashSays n ws)
       both v l =
           let there = shortest_exists ws (early v) (late v) l.clash.0 in
           let back = shortest_exists ws (late v) (early v) l.clash.1 in (
             Clashed.Chains (record { 0 = v }) (length there.0) (length back.0),
-            refl,
             (there.0 ++ back.0, record { lowest = l; there = there.0; back = back.0; late_early = there.1; early_late = back.1; there_length = refl; back_length = refl; words = refl }),
           )
 
   -- Next
   pub moves_exists : Outcome Moved (Moves n ws area work)
   moves_exists =
-      keeps_exists moved_refusal (NextSays n ws (take n area)) Moved.Refused (λ r. refl) n ws area work (next_due n ws area (length work))
+      keeps_exists (NextSays n ws (take n area)) n ws area work (next_due n ws area (length work))
       (next_named n ws area (length work)) (λ e. answer (next_accepted n ws area (length work) e))
     where
       rota : (n ≤ length area) → ((i : ℕ) → i < length (take n area) → get_or (take n area) i 0 < 2) → Rota n (take n area)
@@ -134,10 +134,10 @@ module _ (n : ℕ) (ws area work : List ℕ) where
           }
 
       answer : Accepted n ws (length area) (rota_needs n) (length work) × ((i : ℕ) → i < length (take n area) → get_or (take n area) i 0 < 2) →
-          Saying moved_refusal (NextSays n ws (take n area))
+          Saying (NextSays n ws (take n area))
       answer ok =
           ⊎_elim
-          (λ f. ⊎_elim (λ s. (Moved.Moved, refl, (s.0, s.1))) (λ e. (Moved.Ended, refl, ([], ((f.0, f.1.allowed), e, refl))))
+          (λ f. ⊎_elim (λ s. (Moved.Moved, (s.0, s.1))) (λ e. (Moved.Ended, ([], ((f.0, f.1.allowed), e, refl))))
           (next_or_ended n ws (take n area) ok.0.range (rota ok.0.room ok.1) (possible_free n ws (f.0, f.1.allowed))))
-          (λ c. (Moved.Impossible, refl, ([], (clash_impossible n ws c.0 c.2.clash, refl))))
+          (λ c. (Moved.Impossible, ([], (clash_impossible n ws c.0 c.2.clash, refl))))
           (possible_or_clash n ws ok.0.range)

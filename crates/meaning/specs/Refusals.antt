@@ -1,5 +1,5 @@
 -- Refusals: their numbers and places, and which of them is due.
-use Rattle.std.specs.Prelude.{Bool, true, false, cond, List, [], ◌∷◌, ◌++◌, ℕ, suc, ◌*◌, ◌%◌, leb, ltb, eqb, length, take}
+use Rattle.std.specs.Prelude.{Result, Ok, Err, Bool, true, false, cond, List, [], ◌∷◌, ◌++◌, ℕ, suc, ◌*◌, ◌%◌, leb, ltb, eqb, length, take}
 use Rattle.meaning.specs.Rules.{rules}
 use Rattle.meaning.specs.Sizes.{max_choices, max_rules, rota_needs, work_needs}
 use Rattle.meaning.specs.declared.refusal.Refusal.{Refusal}
@@ -40,6 +40,11 @@ pub data Due : Type 0 where
 -- a refusal by its number and place
 abbrev pub as_due : Refusal → Due
 as_due r = refused (number_of r) (place_of r)
+
+-- what an answer refuses: nothing where the call went through
+abbrev pub due_of : {A : Type 0} → Result A Refusal → Due
+due_of (Ok a) = none
+due_of (Err r) = as_due r
 
 -- a refusal's condition, its number and its place
 pub data Check : Type 0 where

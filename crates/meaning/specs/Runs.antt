@@ -1,10 +1,11 @@
 -- Every rota once: what the rotas of a list in order are, and what is asked of a run of calls that starts with Decide and goes on by Next.
-use Rattle.std.specs.Prelude.{◌≡◌, ◌⊎◌, List, [], ◌∷◌, ℕ, take}
+use Rattle.std.specs.Prelude.{◌≡◌, Result, Ok, ◌⊎◌, List, [], ◌∷◌, ℕ, take}
 use Rattle.meaning.specs.Order.{Before}
 use Rattle.meaning.specs.Rotas.{Allowed, First, Next, Ended}
 use Rattle.meaning.specs.Promises.{Decides, Moves}
 use Rattle.meaning.specs.declared.answers.Decided.{Decided}
 use Rattle.meaning.specs.declared.answers.Moved.{Moved}
+use Rattle.meaning.specs.declared.refusal.Refusal.{Refusal}
 
 -- rs are, one after the other, the next allowed rotas from r on, and none comes after the last
 abbrev pub Follow : ℕ → List ℕ → List ℕ → List (List ℕ) → Type 0
@@ -17,19 +18,19 @@ InOrder n ws [] = ⊥
 InOrder n ws (r ∷ rs) = First n ws r × Follow n ws r rs
 
 -- A run of calls, whatever is known of a call with its two areas, its answer and what it leaves in them.
-module _ {ℓ} (n : ℕ) (next : List ℕ → List ℕ → Moved → List ℕ → List ℕ → Type ℓ) where
+module _ {ℓ} (n : ℕ) (next : List ℕ → List ℕ → Result Moved Refusal → List ℕ → List ℕ → Type ℓ) where
   -- Next is called again and again on the rota's area, with any work area each time: it leaves the rotas rs there, one after the other, and then ends
   abbrev pub GoesOn : List ℕ → List (List ℕ) → Type ℓ
-  GoesOn area [] = (work area' work' : List ℕ) × next area work Moved.Ended area' work'
-  GoesOn area (r ∷ rs) = (work area' work' : List ℕ) × next area work Moved.Moved area' work' × (take n area' ≡ r) × GoesOn area' rs
+  GoesOn area [] = (work area' work' : List ℕ) × next area work (Ok Moved.Ended) area' work'
+  GoesOn area (r ∷ rs) = (work area' work' : List ℕ) × next area work (Ok Moved.Moved) area' work' × (take n area' ≡ r) × GoesOn area' rs
 
   -- the rotas of a run that Decide begins
-  pub record RunOf (decide : List ℕ → List ℕ → Decided → List ℕ → List ℕ → Type ℓ) (r : List ℕ) (rs : List (List ℕ)) : Type ℓ where
+  pub record RunOf (decide : List ℕ → List ℕ → Result Decided Refusal → List ℕ → List ℕ → Type ℓ) (r : List ℕ) (rs : List (List ℕ)) : Type ℓ where
     pub area : List ℕ
     pub work : List ℕ
     pub area' : List ℕ
     pub work' : List ℕ
-    pub decided : decide area work Decided.Possible area' work'
+    pub decided : decide area work (Ok Decided.Possible) area' work'
     pub first : take n area' ≡ r
     pub goes_on : GoesOn area' rs
 

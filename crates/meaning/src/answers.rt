@@ -1,25 +1,23 @@
-// What the five calls on a list answer.
+// What the five calls on a list answer where they do not refuse it. Enums of their own, and no Option or Result: that a list is
+// impossible is an answer and no failure, and the C face has a number for each case.
 use crate::codes::Choice;
-use crate::refusal::Refusal;
 
 // Decide: the first rota is written, or this choice clashes.
-#[derive(Clone, Copy)]
+#[derive(Clone, Copy, Debug, PartialEq, Eq)]
 pub enum Decided {
     Possible,
     Impossible(Choice),
-    Refused(Refusal),
 }
 
 // Forced and Ties: an item for each choice is written.
-#[derive(Clone, Copy)]
+#[derive(Clone, Copy, Debug, PartialEq, Eq)]
 pub enum Listed {
     Done,
     Impossible,
-    Refused(Refusal),
 }
 
 // Clash: the two chains of the choice are written one after the other, of these lengths.
-#[derive(Clone, Copy)]
+#[derive(Clone, Copy, Debug, PartialEq, Eq)]
 pub enum Clashed {
     Chains {
         choice: Choice,
@@ -27,14 +25,12 @@ pub enum Clashed {
         early_late: usize,
     },
     Possible,
-    Refused(Refusal),
 }
 
 // Next: the next rota is written, or none comes after, or none exists.
-#[derive(Clone, Copy)]
+#[derive(Clone, Copy, Debug, PartialEq, Eq)]
 pub enum Moved {
     Moved,
     Ended,
     Impossible,
-    Refused(Refusal),
 }

@@ -2,13 +2,13 @@
 ghost use Rattle.std.specs.Prelude.{◌≡◌, min};
 ghost use Rattle.meaning.specs.Codes.{opposite, choice_of, value_of, code_of, last_choice};
 
-#[derive(Clone, Copy)]
+#[derive(Clone, Copy, Debug, PartialEq, Eq, PartialOrd, Ord, Hash)]
 pub struct Choice(pub u16);
 
-#[derive(Clone, Copy)]
+#[derive(Clone, Copy, Debug, PartialEq, Eq, PartialOrd, Ord, Hash)]
 pub struct Code(pub u16);
 
-#[derive(Clone, Copy)]
+#[derive(Clone, Copy, Debug, PartialEq, Eq, PartialOrd, Ord, Hash)]
 pub struct RuleNo(pub u16);
 
 impl Choice {
@@ -22,11 +22,7 @@ impl Choice {
     fn held(self) -> u16
         ensures { result ≡ min last_choice self.0 }
     {
-        if self.0 < Choice::LAST {
-            self.0
-        } else {
-            Choice::LAST
-        }
+        self.0.min(Choice::LAST)
     }
 }
 
@@ -72,5 +68,30 @@ impl Code {
         } else {
             Code(late)
         }
+    }
+}
+
+// As an index or a count, each widens without loss.
+impl From<Choice> for usize {
+    ghost from_gives = { λ choice place. place ≡ choice.0 };
+
+    fn from(choice: Choice) -> usize {
+        usize::from(choice.0)
+    }
+}
+
+impl From<Code> for usize {
+    ghost from_gives = { λ code place. place ≡ code.0 };
+
+    fn from(code: Code) -> usize {
+        usize::from(code.0)
+    }
+}
+
+impl From<RuleNo> for usize {
+    ghost from_gives = { λ rule place. place ≡ rule.0 };
+
+    fn from(rule: RuleNo) -> usize {
+        usize::from(rule.0)
     }
 }

@@ -2,7 +2,10 @@
 ghost use Rattle.std.specs.Prelude.{◌≡◌};
 ghost use Rattle.meaning.specs.Refusals.{number_of, place_of};
 
-#[derive(Clone, Copy)]
+use std::error::Error;
+use std::fmt;
+
+#[derive(Clone, Copy, Debug, PartialEq, Eq)]
 pub enum Refusal {
     TooManyChoices(usize),
     OddWords(usize),
@@ -18,7 +21,7 @@ pub enum Refusal {
 }
 
 impl Refusal {
-    // The number that document and header give the refusal.
+    // The number that the rules and the C header give the refusal.
     pub fn number(self) -> u32
         ensures { result ≡ number_of self }
     {
@@ -55,3 +58,11 @@ impl Refusal {
         }
     }
 }
+
+impl fmt::Display for Refusal {
+    fn fmt<W: fmt::Write>(&self, f: &mut fmt::Formatter<W>) -> fmt::Result {
+        write!(f, "refused {} at {}", self.number(), self.place())
+    }
+}
+
+impl Error for Refusal {}

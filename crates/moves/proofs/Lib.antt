@@ -11,3 +11,4 @@ pub mod Spreading
 pub mod Clearing
 pub mod Pressing
 pub mod Trying
+pub mod Moving

@@ -1,4 +1,4 @@
--- The turns of `spread` and `undo`, over the work area.
+-- The turns of `walk` and `take_back`, over the work area.
 use mathlib.Core.Path.{◌≡◌, refl, sym, ap, ◌∙◌, subst}
 use mathlib.Core.Logic.{◌≢◌}
 use mathlib.Core.List.{List}

@@ -2,4 +2,5 @@
 pub mod Layout
 pub mod Lists
 pub mod Walks
+pub mod Area
 pub mod Trials

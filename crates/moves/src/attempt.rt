@@ -1,95 +1,104 @@
 // A trial: a code and all that follows from it are taken into a closed and consistent set, unless that meets a code whose
 // opposite is in the set. Then the code leads to its own opposite, which is the only way a trial can fail, and the set is
 // as before. A trial costs what it walks, and nothing in proportion to the choices.
-ghost use Rattle.std.specs.Prelude.{◌≡◌, ◌*◌, ◌<◌};
-ghost use Rattle.meaning.specs.Codes.{opposite};
-ghost use Rattle.moves.specs.Layout.{Tables, mark};
-ghost use Rattle.moves.specs.Lists.{Ready};
-ghost use Rattle.moves.specs.Walks.{Listed, Holding};
-ghost use Rattle.moves.specs.Trials.{Meets, Pulls, Presses, Tried};
+// Its two loops go as those of a walk do (spread.rt), but a failure ends them: with one function for both, a walk would have a
+// Result that is never an Err.
+ghost use Rattle.std.specs.Prelude.{◌*◌, ◌<◌};
+ghost use Rattle.moves.specs.Area.{Free, Holds};
+ghost use Rattle.moves.specs.Trials.{Meets, Pulls, Presses, Tries};
 
-use crate::ends::{code_at, other_end};
-use crate::layout::{head_of, mark_of, next_of, trail_code};
-use crate::spread::{touch, undo};
+use crate::work::Work;
 use meaning::Code;
+use std::mem;
 
-// The trail's new end; or the code that was met with its opposite, and how many codes were walked.
-#[derive(Clone, Copy)]
-pub enum Trial {
-    Kept(usize),
-    Failed(Code, usize),
+// The code that was met with its opposite, and how many codes were walked.
+#[derive(Clone, Copy, Debug, PartialEq, Eq)]
+pub struct Failure {
+    pub code: Code,
+    pub walked: usize,
 }
 
-// Puts b on the trail, unless it has a mark or its opposite has one. A failure tells the trail's end.
-fn meet(n: usize, work: &mut [u16], b: Code, tail: usize) -> Trial
-    requires { (b.0 < 2 * n) × Tables n work.old × Listed n work.old tail }
-    ensures { Meets n work.old b.0 tail work.new result }
-{
-    if mark_of(n, work, b) != 0 {
-        return Trial::Kept(tail);
+impl<'a> Work<'a> {
+    // Puts b on the trail, unless it has a mark or its opposite has one. The crates above look at the same two marks, but each does
+    // something else then, so that there is no function for it.
+    fn meet(&mut self, b: Code) -> Result<(), Code>
+        requires { b.0 < 2 * self.old.n }
+        ensures { Meets self.old b.0 self.new result }
+    {
+        if self.mark(b) != 0 {
+            return Ok(());
+        }
+        let o = b.opposite();
+        if self.mark(o) != 0 {
+            return Err(b);
+        }
+        self.touch(b, 1);
+        Ok(())
     }
-    let o = b.opposite();
-    if mark_of(n, work, o) != 0 {
-        return Trial::Failed(b, tail);
-    }
-    Trial::Kept(touch(n, work, b, 1, tail))
-}
 
-// Puts what the code a leads to on the trail. A failure tells the trail's end.
-fn pull(n: usize, words: &[u16], work: &mut [u16], a: Code, tail: usize) -> Trial
-    requires ready { Ready n words.now work.old }
-    requires a_bound { (a.0 < 2 * n) × Listed n work.old tail }
-    ensures { Pulls n words.now a.0 work.old tail work.new result }
-{
-    let held = a.opposite().0;
-    let mut t = tail;
-    let mut e = head_of(n, work, Code(held));
-    while 0 < e {
-        let k = e - 1;
-        let b = code_at(words, other_end(k));
-        let met = meet(n, work, b, t);
-        let Trial::Kept(end) = met else {
-            return met;
+    // Puts what the code a leads to on the trail.
+    fn pull(&mut self, a: Code) -> Result<(), Code>
+        requires { a.0 < 2 * self.old.n }
+        ensures { Pulls self.old a.0 self.new result }
+    {
+        // The ends are linked through the area: there is no slice to go over.
+        let mut at = self.first_end(a.opposite());
+        while let Some(end) = at {
+            let b = self.across(end);
+            self.meet(b)?;
+            at = self.next_end(end);
+        }
+        Ok(())
+    }
+
+    // Puts source and all that it leads to on the trail.
+    fn press(&mut self, source: Code) -> Result<(), Code>
+        requires holding { Holds self.old }
+        requires source_bound { Free self.old source.0 }
+        ensures { Presses self.old source.0 self.new result }
+    {
+        // The trail is the queue, and grows while it is gone through: so no `for`.
+        let mut h = self.tail();
+        self.touch(source, 1);
+        while h < self.tail() {
+            let a = self.trail(h);
+            self.pull(a)?;
+            h += 1;
+        }
+        Ok(())
+    }
+
+    // The trial itself.
+    #[inline(always)]
+    fn try_code(&mut self, c: Code) -> Result<(), Failure>
+        requires holding { Holds self.old }
+        requires c_bound { Free self.old c.0 }
+        ensures { Tries self.old c.0 self.new result }
+    {
+        let tail = self.tail();
+        let Err(code) = self.press(c) else {
+            return Ok(());
         };
-        t = end;
-        e = next_of(n, work, k);
+        let walked = self.tail() - tail;
+        self.undo_to(tail);
+        Err(Failure { code, walked })
     }
-    Trial::Kept(t)
-}
 
-// Puts source and all that it leads to on the trail. A failure tells the trail's end.
-fn press(n: usize, words: &[u16], work: &mut [u16], source: Code, tail: usize) -> Trial
-    requires ready { Ready n words.now work.old }
-    requires holding { Holding n words.now work.old tail }
-    requires source_bound { (source.0 < 2 * n) × (mark n work.old source.0 ≡ 0) × (mark n work.old (opposite source.0) ≡ 0) }
-    ensures { Presses n words.now source.0 tail work.old work.new result }
-{
-    let mut t = touch(n, work, source, 1, tail);
-    let mut h = tail;
-    while h < t {
-        let a = trail_code(n, work, h);
-        let pulled = pull(n, words, work, a, t);
-        let Trial::Kept(end) = pulled else {
-            return pulled;
+    // Takes c and all that follows from it into the set, unless c leads to its opposite. The trial is of a value of its own that holds
+    // the area meanwhile: behind a reference, the length of the trail would be loaded and stored at each step.
+    #[inline(always)]
+    pub fn attempt(&mut self, c: Code) -> Result<(), Failure>
+        requires holding { Holds self.old }
+        requires c_bound { Free self.old c.0 }
+        ensures { Tries self.old c.0 self.new result }
+    {
+        let mut work = Work {
+            words: mem::take(&mut self.words),
+            ..*self
         };
-        t = end;
-        h += 1;
+        let tried = work.try_code(c);
+        self.words = work.words;
+        self.tail = work.tail;
+        tried
     }
-    Trial::Kept(t)
-}
-
-// Takes c and all that follows from it into the set, unless c leads to its opposite.
-pub fn attempt(n: usize, words: &[u16], work: &mut [u16], c: Code, tail: usize) -> Trial
-    requires ready { Ready n words.now work.old }
-    requires holding { Holding n words.now work.old tail }
-    requires c_bound { (c.0 < 2 * n) × (mark n work.old c.0 ≡ 0) × (mark n work.old (opposite c.0) ≡ 0) }
-    ensures { Tried n words.now c.0 tail work.old work.new result }
-{
-    let went = press(n, words, work, c, tail);
-    let Trial::Failed(b, t) = went else {
-        return went;
-    };
-    undo(n, work, tail, t);
-    let walked = t - tail;
-    Trial::Failed(b, walked)
 }

@@ -1,5 +1,4 @@
-// The work area is handed back as zeros, as far as a call needs it. A call also starts by clearing the tables that it reads
-// before it writes them: it may be lent any words.
+// A call starts by clearing the tables that it reads before it writes them: it may be lent any words.
 ghost use Rattle.std.specs.Prelude.{◌≡◌, ◌≤◌, length, replicate};
 ghost use Rattle.meaning.specs.Sizes.{over};
 
@@ -8,9 +7,5 @@ pub fn clear(work: &mut [u16], count: usize)
     requires { count ≤ length work.old }
     ensures { work.new ≡ over (replicate count 0) work.old }
 {
-    let mut i = 0;
-    while i < count {
-        work[i] = 0;
-        i += 1;
-    }
+    work[..count].fill(0);
 }

@@ -5,7 +5,7 @@ ghost use Rattle.meaning.specs.Codes.{opposite};
 
 use meaning::Code;
 
-// The other end of the same rule.
+// The other end of the same rule. The number is reckoned as that of a code's opposite, but an end is no code.
 pub fn other_end(e: usize) -> usize
     ensures { result ≡ opposite e }
 {

@@ -1,30 +1,20 @@
 // Where each table stands in the work area: heads [0, 2n), marks [2n, 4n), trail [4n, 6n), spare [6n, 8n), nexts from 8n on.
-// They share one area because two parts of a lent slice cannot be lent at a time. No other file names an offset, so that a
-// table is added or moved here and in specs/Layout alone. The area's words are widened and narrowed here only.
+// They share the one area that a call is lent, and the laws speak of loads after stores in it. No other file names an offset, so that a
+// table is added or moved here and in specs/Layout alone. The functions take n and the area, and are no methods: `Work` and the walk
+// of `components` both stand on them, and one more struct below these two would say nothing. And the tables are one slice, and no five: the
+// laws speak of loads after stores in one list, and five would put five lengths into each invariant. A number is cast where it is stored:
+// the check has it proved that nothing is lost.
 ghost use Rattle.std.specs.Prelude.{◌≡◌, ◌*◌, ◌<◌, ◌≤◌, length, set};
 ghost use Rattle.meaning.specs.Sizes.{max_choices};
 ghost use Rattle.moves.specs.Layout.{Tables, head_at, mark_at, trail_at, spare_at, next_at, head, mark, trail, spare, next};
 
 use meaning::Code;
 
-pub fn wide(x: u16) -> usize
-    ensures { result ≡ x }
-{
-    x as usize
-}
-
-pub fn narrow(x: usize) -> u16
-    requires { x < 65536 }
-    ensures { result ≡ x }
-{
-    x as u16
-}
-
 pub fn head_word(n: usize, work: &[u16], c: Code) -> u16
     requires { (c.0 < 2 * n) × Tables n work.now }
     ensures { result ≡ head n work.now c.0 }
 {
-    work[c.0 as usize]
+    work[usize::from(c)]
 }
 
 // One more than the first end that holds c, or 0.
@@ -32,14 +22,14 @@ pub fn head_of(n: usize, work: &[u16], c: Code) -> usize
     requires { (c.0 < 2 * n) × Tables n work.now }
     ensures { result ≡ head n work.now c.0 }
 {
-    wide(head_word(n, work, c))
+    usize::from(head_word(n, work, c))
 }
 
 pub fn set_head(n: usize, work: &mut [u16], c: Code, v: u16)
     requires { (c.0 < 2 * n) × Tables n work.old }
     ensures { work.new ≡ set work.old (head_at n c.0) v }
 {
-    work[c.0 as usize] = v;
+    work[usize::from(c)] = v;
 }
 
 // 0 where x is not in the set.
@@ -47,14 +37,14 @@ pub fn mark_of(n: usize, work: &[u16], x: Code) -> u16
     requires { (x.0 < 2 * n) × Tables n work.now }
     ensures { result ≡ mark n work.now x.0 }
 {
-    work[2 * n + x.0 as usize]
+    work[2 * n + usize::from(x)]
 }
 
 pub fn set_mark(n: usize, work: &mut [u16], x: Code, v: u16)
     requires { (x.0 < 2 * n) × Tables n work.old }
     ensures { work.new ≡ set work.old (mark_at n x.0) v }
 {
-    work[2 * n + x.0 as usize] = v;
+    work[2 * n + usize::from(x)] = v;
 }
 
 // The code at place i of the trail.
@@ -76,14 +66,14 @@ pub fn spare_of(n: usize, work: &[u16], x: Code) -> u16
     requires { (x.0 < 2 * n) × Tables n work.now }
     ensures { result ≡ spare n work.now x.0 }
 {
-    work[6 * n + x.0 as usize]
+    work[6 * n + usize::from(x)]
 }
 
 pub fn set_spare(n: usize, work: &mut [u16], x: Code, v: u16)
     requires { (x.0 < 2 * n) × Tables n work.old }
     ensures { work.new ≡ set work.old (spare_at n x.0) v }
 {
-    work[6 * n + x.0 as usize] = v;
+    work[6 * n + usize::from(x)] = v;
 }
 
 // One more than the next end after e that holds e's code, or 0.
@@ -91,7 +81,7 @@ pub fn next_of(n: usize, work: &[u16], e: usize) -> usize
     requires { next_at n e < length work.now }
     ensures { result ≡ next n work.now e }
 {
-    wide(work[8 * n + e])
+    usize::from(work[8 * n + e])
 }
 
 pub fn set_next(n: usize, work: &mut [u16], e: usize, v: u16)

@@ -1,3 +1,4 @@
 -- The laws that carry the replay.
 pub mod Replaying
 pub mod Turning
+pub mod Passing

@@ -6,15 +6,15 @@ use Prim.Native.Nat.{ℕ, ◌+◌, ◌-◌, ◌*◌, ◌≤◌, ◌<◌}
 use native.Mathlib.Omega.{arith}
 use lib.ListN.{length, get_or, set, take, length-take}
 use lib.Seq.{get_or-take}
-use Rattle.replay.specs.declared.follow.Joined.{Joined}
-use Rattle.replay.specs.Replay.{Past, Stands, length_at, Levels, NoneFrom, Replayed, Unchanged, Raised, JoinSays, LiftSays}
+use mathlib.Core.Bool.{Bool, true, false}
+use Rattle.replay.specs.Replay.{Past, Spans, length_at, Levels, NoneFrom, Replayed, Unchanged, Raised, JoinSays, LiftSays}
 use Rattle.search.specs.State.{Around}
 use Rattle.meaning.specs.Chains.{Reach}
 use Rattle.meaning.specs.Codes.{late, opposite, choice_of, code_of}
 use Rattle.meaning.specs.Rotas.{True, Rota}
 use Rattle.moves.specs.Layout.{spare_at, mark, trail, Tables, Spared}
 use Rattle.moves.specs.Lists.{Ready}
-use Rattle.moves.specs.Trials.{Grew, GaveUp}
+use Rattle.moves.specs.Trials.{Grew}
 use Rattle.moves.specs.Walks.{Listed, Held, Holding, Undone}
 use Rattle.search.proofs.Searching.{around_refl, around_trans, apart_around}
 use Rattle.meaning.proofs.General.{same?}
@@ -51,12 +51,9 @@ join_has {n} {ws} {c} {t} {W} h i =
       free = λ p. h.consistent c i (reached (opposite c) p);
     }
 
--- nothing changes; or a trial was given up
+-- nothing changes
 pub unchanged_none : {n : ℕ} {ws : List ℕ} {t : ℕ} {W : List ℕ} → Holding n ws W t → Unchanged n ws t W W
 unchanged_none {n} {ws} {t} {W} h = record { apart = apart_refl n W; holding = h; old = λ k l. refl }
-
-pub unchanged_gave_up : {n : ℕ} {ws : List ℕ} {c t b : ℕ} {W W' : List ℕ} → GaveUp n ws c t W W' b → Unchanged n ws t W W'
-unchanged_gave_up g = record { apart = g.apart; holding = g.holding; old = g.old }
 
 -- sets that stand on codes
 
@@ -72,7 +69,7 @@ module _ {n : ℕ} {W U : List ℕ} {t : ℕ} (a : Listed n W t) (b : Listed n U
       let w = b.queued x h.is_code h.is_marked in
       record { is_code = h.is_code; is_marked = subst (λ (y : ℕ). 0 < mark n W y) (sym (same w.0 w.1) ∙ w.2) (a.inside w.0 w.1).1 }
 
-  pub stands_same : {ws : List ℕ} {P : ℕ → Type 0} → Stands n ws P W t → Stands n ws P U t
+  pub stands_same : {ws : List ℕ} {P : ℕ → Type 0} → Spans n ws P W t → Spans n ws P U t
   stands_same s =
       record {
         holding = record {
@@ -86,7 +83,7 @@ module _ {n : ℕ} {W U : List ℕ} {t : ℕ} (a : Listed n W t) (b : Listed n U
 
 -- a set that has grown by c stands on c too
 pub stands_grew : {n : ℕ} {ws : List ℕ} {P : ℕ → Type 0} (Q : ℕ → Type 0) {c tail t : ℕ} {W W' : List ℕ} → ((d : ℕ) → P d → Q d) → Q c →
-    ((d : ℕ) → Q d → P d ⊎ (d ≡ c)) → Stands n ws P W tail → Grew n ws c tail W W' t → Stands n ws Q W' t
+    ((d : ℕ) → Q d → P d ⊎ (d ≡ c)) → Spans n ws P W tail → Grew n ws c tail W W' t → Spans n ws Q W' t
 stands_grew {n} {ws} {P} Q {c} {tail} {t} {W} {W'} more here less s g =
     record {
       holding = g.holding;
@@ -116,7 +113,7 @@ levels_move {n} {ws} {r} {top} {t} {t'} {W} {W'} h m q l =
 pub record Replaying (n : ℕ) (ws r W₀ W : List ℕ) (i t : ℕ) : Type 0 where
   pub high : i ≤ n
   pub around : Around n W₀ W
-  pub stands : Stands n ws (Past r i) W t
+  pub stands : Spans n ws (Past r i) W t
   pub levels : Levels n ws r i W t
 
 -- at the start nothing is replayed
@@ -151,7 +148,7 @@ past_less r i d p =
     (same? (choice_of d) i)
 
 -- a code that the set does not let in: no allowed rota agrees with r up to its choice
-pub barred_none : {n : ℕ} {ws r W : List ℕ} {i t : ℕ} → Rota n r → Stands n ws (Past r i) W t →
+pub barred_none : {n : ℕ} {ws r W : List ℕ} {i t : ℕ} → Rota n r → Spans n ws (Past r i) W t →
     Held n W (opposite (code_of i (get_or r i 0))) ⊎ Reach ws (code_of i (get_or r i 0)) (opposite (code_of i (get_or r i 0))) → NoneFrom n ws r (i + 1)
 barred_none {n} {ws} {r} {W} {i} {t} rota s bad j l q ok same less =
     let c = code_of i (get_or r i 0) in
@@ -187,7 +184,7 @@ module _ {n : ℕ} {ws r W₀ W W₁ : List ℕ} {i t x v : ℕ} (s : Ready n ws
   pub stored_around : Around n W₀ W₁
   stored_around = around_trans h.around (record { long = spared.long; heads = spared.heads; nexts = spared.nexts })
 
-  pub stored_stands : Stands n ws (Past r i) W₁ t
+  pub stored_stands : Spans n ws (Past r i) W₁ t
   stored_stands = stands_same h.stands.holding.listed (listed_spared spared h.stands.holding.listed) places h.stands
 
   stored_levels : Levels n ws r (i + 1) W₁ t
@@ -246,10 +243,10 @@ replay_done {n} {ws} {r} {W₀} {W} {i} {t} l h =
 -- the retreat
 
 -- choice p is late already, or late p cannot join: it cannot be raised
-pub lift_late : {n : ℕ} {ws W : List ℕ} {t : ℕ} (r : List ℕ) (p : ℕ) → Rota n r → Stands n ws (Past r p) W t → get_or r p 0 ≢ 0 → Unchanged n ws t W W × NoneAt n ws r p
+pub lift_late : {n : ℕ} {ws W : List ℕ} {t : ℕ} (r : List ℕ) (p : ℕ) → Rota n r → Spans n ws (Past r p) W t → get_or r p 0 ≢ 0 → Unchanged n ws t W W × NoneAt n ws r p
 lift_late {n} {ws} {W} {t} r p rota s ne = (unchanged_none s.holding, late_none n ws r p (omega (arith, rota.bits p)))
 
-module _ {n : ℕ} {ws W W' : List ℕ} {tail c : ℕ} (r : List ℕ) (p : ℕ) (s : Stands n ws (Past r p) W tail) (ec : c ≡ late p) where
+module _ {n : ℕ} {ws W W' : List ℕ} {tail c : ℕ} (r : List ℕ) (p : ℕ) (s : Spans n ws (Past r p) W tail) (ec : c ≡ late p) where
   lift_barred : Unchanged n ws tail W W' × (Held n W (opposite c) ⊎ Reach ws c (opposite c)) → Unchanged n ws tail W W' × NoneAt n ws r p
   lift_barred u = (
     u.0,
@@ -270,10 +267,10 @@ module _ {n : ℕ} {ws W W' : List ℕ} {tail c : ℕ} (r : List ℕ) (p : ℕ) 
       }
 
 -- by what became of late p
-pub lift_by : (n : ℕ) (ws r : List ℕ) (p tail : ℕ) (W W' : List ℕ) {c : ℕ} (j : Joined) → Stands n ws (Past r p) W tail → c ≡ late p → p < n → get_or r p 0 ≡ 0 →
-    JoinSays n ws c tail W W' j → LiftSays n ws r p tail W W' j
-lift_by n ws r p tail W W' (Joined.Kept t) s ec l z g = lift_raised r p s ec l z g
-lift_by n ws r p tail W W' Joined.Refused s ec l z u = lift_barred r p s ec u
+pub lift_by : (n : ℕ) (ws r : List ℕ) (p tail : ℕ) (W W' : List ℕ) (t : ℕ) {c : ℕ} (j : Bool) → Spans n ws (Past r p) W tail → c ≡ late p → p < n → get_or r p 0 ≡ 0 →
+    JoinSays n ws c tail W W' t j → LiftSays n ws r p tail W W' t j
+lift_by n ws r p tail W W' t true s ec l z g = lift_raised r p s ec l z g
+lift_by n ws r p tail W W' t false s ec l z u = let b = lift_barred r p s ec (u.0, u.1) in (b.0, b.1, u.2)
 
 -- no rota comes after r that leaves it at choice v or later
 pub record Retreating (n : ℕ) (ws r W₀ W : List ℕ) (v t : ℕ) : Type 0 where
@@ -297,7 +294,7 @@ module _ {n : ℕ} {ws r W₀ W : List ℕ} {v t b : ℕ} {W₁ : List ℕ} (l :
   pub taken_around : Around n W₀ W₁
   taken_around = around_trans h.around (apart_around u.apart)
 
-  pub taken_stands : Stands n ws (Past r (v - 1)) W₁ b
+  pub taken_stands : Spans n ws (Past r (v - 1)) W₁ b
   taken_stands =
       rw eb (h.levels.back (v - 1) lj W₁ (rw eb at u.listed) (λ k m. trails k (omega (arith, h.levels.last (v - 1) lj))))
 

@@ -4,10 +4,10 @@ use mathlib.Core.Logic.{◌⊎◌, inl, inr, ⊎_elim, ◌≢◌}
 use mathlib.Core.List.{List}
 use Prim.Native.Nat.{ℕ, suc, ◌+◌, ◌-◌, ◌*◌, ◌<◌, min}
 use native.Mathlib.Omega.{arith}
-use Rattle.replay.specs.declared.turn.Turn.{Turn}
+use Rattle.meaning.specs.declared.answers.Moved.{Moved}
 use lib.ListN.{get_or, set}
 use native.Mathlib.Numerals.{add-one}
-use Rattle.replay.specs.Replay.{Stands, NoneFrom, Forgot, TurnSays}
+use Rattle.replay.specs.Replay.{Spans, NoneFrom, Forgot, TurnSays}
 use Rattle.search.specs.Search.{Settles, Halts}
 use Rattle.search.specs.State.{rota_of, Around, State}
 use Rattle.meaning.specs.Codes.{late, early}
@@ -49,7 +49,7 @@ pub forgot_around : {n k : ℕ} {W W' : List ℕ} → Forgot n k W W' → Around
 forgot_around f = record { long = f.spared.long; heads = f.spared.heads; nexts = f.spared.nexts }
 
 -- the set is the same
-pub forgot_stands : {n k : ℕ} {ws W W' : List ℕ} {P : ℕ → Type 0} {t : ℕ} → Forgot n k W W' → Stands n ws P W t → Stands n ws P W' t
+pub forgot_stands : {n k : ℕ} {ws W W' : List ℕ} {P : ℕ → Type 0} {t : ℕ} → Forgot n k W W' → Spans n ws P W t → Spans n ws P W' t
 forgot_stands f s =
     let l = s.holding.listed in
     stands_same l (listed_spared f.spared l) (λ i m. f.spared.trails i (omega (arith, trail_few l))) s
@@ -65,7 +65,7 @@ module _ {n : ℕ} {ws W₀ W W₁ : List ℕ} (r : Ready n ws W₀) (a : Around
   begin_around = around_trans a (forgot_around f)
 
   -- from a choice that is raised
-  pub begin_raised : {P : ℕ → Type 0} {t : ℕ} → Stands n ws P W t → State n ws W₁ t
+  pub begin_raised : {P : ℕ → Type 0} {t : ℕ} → Spans n ws P W t → State n ws W₁ t
   begin_raised s = unnoted_state (ready_around r begin_around) (forgot_stands f s).holding f.zeros
 
   -- or from nothing
@@ -87,7 +87,7 @@ seeded d h = omega (arith, h.is_code, h.is_marked)
 unseeded : {n : ℕ} {W : List ℕ} (d : ℕ) → 0 < seeds n W d → Held n W d
 unseeded d h = record { is_code = omega arith; is_marked = omega arith }
 
-module _ (n : ℕ) (ws r W W' : List ℕ) (p t t' : ℕ) (rota : Rota n r) (l : p < n) (low : get_or r p 0 ≡ 0) (stands : Stands n ws (Kept r p) W t)
+module _ (n : ℕ) (ws r W W' : List ℕ) (p t t' : ℕ) (rota : Rota n r) (l : p < n) (low : get_or r p 0 ≡ 0) (stands : Spans n ws (Kept r p) W t)
     (none : NoneFrom n ws r (p + 1)) (s : Settles n ws (p + 1) n W W' t') where
   -- each choice up to p is decided
   decided : (u : ℕ) → u < suc p → Held n W (early u) ⊎ Held n W (late u)
@@ -133,10 +133,10 @@ module _ (n : ℕ) (ws r W W' : List ℕ) (p t t' : ℕ) (rota : Rota n r) (l : 
 
 -- the search from an empty set goes through: rotas exist, and none comes after r
 pub turn_ended : {n : ℕ} {ws W₀ W W' : List ℕ} {t : ℕ} (r : List ℕ) → ((x : ℕ) → x < 2 * n → mark n W x ≡ 0) → NoneFrom n ws r 0 → Around n W₀ W →
-    Settles n ws 0 n W W' t → TurnSays n ws r W₀ W' Turn.Ended
+    Settles n ws 0 n W W' t → TurnSays n ws r W₀ W' Moved.Ended
 turn_ended {n} {ws} {W₀} {W} {W'} {t} r empty past a s =
     (around_trans a s.around, (rota_of n W', (found_first n ws W empty W' t s).allowed), none_ended n ws r (λ j. past j (omega arith)))
 
 -- a search halts: no rota exists
-pub turn_impossible : {n : ℕ} {ws W₀ W W' : List ℕ} {v u t : ℕ} (r : List ℕ) → Around n W₀ W → Halts n ws v W W' u t → TurnSays n ws r W₀ W' Turn.Impossible
+pub turn_impossible : {n : ℕ} {ws W₀ W W' : List ℕ} {v u t : ℕ} (r : List ℕ) → Around n W₀ W → Halts n ws v W W' u t → TurnSays n ws r W₀ W' Moved.Impossible
 turn_impossible {n} {ws} {W₀} {W} {W'} {v} {u} {t} r a h = (around_trans a h.around, clash_impossible n ws u h.clash)

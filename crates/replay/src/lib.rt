@@ -1,4 +1,4 @@
-// The next rota, from a given one. For the crates above only: its functions ask their callers for what specs/ of the moves calls `Ready`.
+// The next rota, from a given one. For the crates above only: it asks that no code has a mark, and that the given bytes are a rota.
 #![tactic(auto)]
 
 mod follow; // the given rota, replayed as far as the rules let it

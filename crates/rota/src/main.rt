@@ -4,7 +4,6 @@
 ghost use Rattle.std.specs.Prelude.{◌≤◌, length, take, IfOk, OnOk, IfSome};
 ghost use Rattle.rota.specs.Answer.{IsFront, Answers};
 
-use lines::Shown;
 use std::io;
 use std::io::{Read, Write};
 
@@ -17,6 +16,7 @@ fn read_full<R: Read>(reader: &mut R, area: &mut [u8]) -> io::Result<usize>
     ensures first { IfOk result (λ n. IsFront (R.remaining reader.old) (length area.new) (take n area.new)) }
 {
     let mut at = 0;
+    // Only a read tells that there is no more: so no `for`.
     while at < area.len() {
         let count = reader.read(&mut area[at..])?;
         if count == 0 {
@@ -35,8 +35,9 @@ fn answer<R: Read, W: Write>(reader: &mut R, writer: &mut W) -> io::Result<()>
     let count = read_full(reader, &mut book)?;
     let mut out = [0u8; lines::ROOM];
     match lines::show(&book[..count], &mut out) {
-        Shown::Text(size) => writer.write_all(&out[..size]),
-        Shown::TooShort => Ok(()),
+        Some(size) => writer.write_all(&out[..size]),
+        // This does not come: the area has the room that `show` asks for.
+        None => Ok(()),
     }
 }
 

@@ -1,3 +1,4 @@
 -- The laws that carry the rounds.
 pub mod Rounds
 pub mod Forcing
+pub mod Sweeping

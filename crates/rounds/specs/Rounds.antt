@@ -2,6 +2,7 @@
 use Rattle.std.specs.Prelude.{◌≡◌, cond, List, ℕ, ◌*◌, ◌<◌, eqb}
 use Rattle.meaning.specs.Codes.{opposite, late, early}
 use Rattle.meaning.proofs.General.{build}
+use Rattle.moves.specs.Area.{Area, Same}
 use Rattle.moves.specs.Layout.{mark, spare}
 use Rattle.lessons.specs.Learning.{fails}
 use Rattle.search.specs.State.{Around, State}
@@ -26,6 +27,31 @@ pub record FoundOut (n : ℕ) (ws : List ℕ) (c : ℕ) (W W' : List ℕ) : Type
 pub record Swept (n : ℕ) (ws : List ℕ) (k : ℕ) (W W' : List ℕ) : Type 0 where
   pub more : More n ws W W' 0
   pub all : (x : ℕ) → x < k → 0 < spare n W' x
+
+-- The same of the whole area.
+
+-- code c is considered
+pub record Considers (a : Area) (c : ℕ) (b : Area) : Type 0 where
+  pub same : Same a b
+  pub considered : Considered a.n a.rules c a.words b.words b.tail
+
+-- a round is gone, and the set is empty
+pub record Goes (a b : Area) : Type 0 where
+  pub same : Same a b
+  pub empty : b.tail ≡ 0
+  pub more : More a.n a.rules a.words b.words 0
+
+-- something is noted of code c
+pub record FindsOut (a : Area) (c : ℕ) (b : Area) : Type 0 where
+  pub same : Same a b
+  pub empty : b.tail ≡ 0
+  pub found : FoundOut a.n a.rules c a.words b.words
+
+-- and of all codes
+pub record Sweeps (a b : Area) : Type 0 where
+  pub same : Same a b
+  pub empty : b.tail ≡ 0
+  pub swept : Swept a.n a.rules (2 * a.n) a.words b.words
 
 -- the byte of a choice, by the notes of its late code and its early code
 abbrev pub byte_of : ℕ → ℕ → ℕ

@@ -2,22 +2,22 @@
 ghost use Rattle.std.specs.Prelude.{◌≡◌, ◌≤◌, ◌<◌, length};
 ghost use Rattle.meaning.specs.Codes.{code_of};
 ghost use Rattle.meaning.specs.Sizes.{max_choices, over};
-ghost use Rattle.moves.specs.Layout.{Tables, spare};
+ghost use Rattle.moves.specs.Layout.{spare};
 ghost use Rattle.rounds.specs.Rounds.{byte_of, forced_of};
 
 use lessons::notes::FAILS;
 use meaning::{Choice, Code};
-use moves::layout::{narrow, spare_of};
+use moves::reading::View;
 
 // The note of the code that says that choice v has this value.
-fn note_of(n: usize, work: &[u16], v: usize, value: u8) -> u16
-    requires { (v < n) × (n ≤ max_choices) × Tables n work.now × (value ≤ 1) }
-    ensures { result ≡ spare n work.now (code_of v value) }
+fn note_of(tables: View<'_>, v: usize, value: u8) -> u16
+    requires { (v < tables.n) × (tables.n ≤ max_choices) × (value ≤ 1) }
+    ensures { result ≡ spare tables.entry.n tables.entry.words.now (code_of v value) }
 {
-    spare_of(n, work, Code::of(Choice(narrow(v)), value))
+    tables.spare(Code::of(Choice(v as u16), value))
 }
 
-// The byte of a choice, by the notes of its late code and its early code.
+// The byte of a choice, by the notes of its late code and its early code: a number, and no enum, since the promise and the C header fix it.
 fn byte_of(late: u16, early: u16) -> u8
     ensures { result ≡ byte_of late early }
 {
@@ -28,13 +28,11 @@ fn byte_of(late: u16, early: u16) -> u8
 }
 
 // Writes the bytes.
-pub fn put_forced(n: usize, work: &[u16], area: &mut [u8])
-    requires { (n ≤ max_choices) × Tables n work.now × (n ≤ length area.old) }
-    ensures { area.new ≡ over (forced_of n work.now) area.old }
+pub fn put_forced(tables: View<'_>, area: &mut [u8])
+    requires { (tables.n ≤ max_choices) × (tables.n ≤ length area.old) }
+    ensures { area.new ≡ over (forced_of tables.entry.n tables.entry.words.now) area.old }
 {
-    let mut v = 0;
-    while v < n {
-        area[v] = byte_of(note_of(n, work, v, 1), note_of(n, work, v, 0));
-        v += 1;
+    for (v, byte) in area[..tables.n].iter_mut().enumerate() {
+        *byte = byte_of(note_of(tables, v, 1), note_of(tables, v, 0));
     }
 }

@@ -1,4 +1,4 @@
-// What is forced, by rounds of trials that are kept. For the crates above only: its functions ask their callers for what specs/ of the search calls `State`.
+// What is forced, by rounds of trials that are kept. For the crates above only: its functions ask their callers for what specs/ of the search calls `Stands`.
 #![tactic(auto)]
 
 pub mod bytes; // what the notes say is forced

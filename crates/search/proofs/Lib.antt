@@ -2,3 +2,5 @@
 pub mod Following
 pub mod Searching
 pub mod Noting
+pub mod Settling
+pub mod Writing

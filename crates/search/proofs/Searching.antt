@@ -11,7 +11,7 @@ use Rattle.meaning.specs.Chains.{Reach, Clash, LowestClash}
 use Rattle.meaning.specs.Codes.{late, early, opposite}
 use Rattle.meaning.specs.Rotas.{First}
 use Rattle.moves.specs.Layout.{mark, spare, Apart}
-use Rattle.lessons.specs.Learning.{Notes, Learnt}
+use Rattle.lessons.specs.Learning.{Learnt}
 use Rattle.moves.specs.Lists.{Ready}
 use Rattle.moves.specs.Trials.{Grew, GaveUp}
 use Rattle.moves.specs.Walks.{Held, Listed, Undone}
@@ -60,10 +60,6 @@ known_apart k p = known_more k (λ x l. inl (p.spares x l)) (λ x l e. k.turns x
 pub known_none : {n : ℕ} {ws W : List ℕ} → ((x : ℕ) → x < 2 * n → spare n W x ≡ 0) → Known n ws W
 known_none z =
     record { low = λ x l. omega (arith, z x l); frees = λ x l e. absurd (omega (arith, z x l)); turns = λ x l e. absurd (omega (arith, z x l)) }
-
--- what the move that learns asks for
-pub known_notes : {n : ℕ} {ws W : List ℕ} → Known n ws W → Notes n ws W
-known_notes k = record { small = λ x l. omega (arith, k.low x l); turns = k.turns }
 
 -- the state after a trial, kept or given up
 pub state_grew : {n : ℕ} {ws : List ℕ} {c tail : ℕ} {W W' : List ℕ} {t : ℕ} → State n ws W tail → Grew n ws c tail W W' t → State n ws W' t

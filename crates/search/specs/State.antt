@@ -1,8 +1,9 @@
 -- What is kept in the work area between two moves.
 use Rattle.std.specs.Prelude.{◌≡◌, List, ℕ, ◌*◌, ◌≤◌, ◌<◌, min, length}
 use Rattle.meaning.specs.Chains.{Reach}
-use Rattle.meaning.specs.Codes.{late, opposite}
+use Rattle.meaning.specs.Codes.{late, early, opposite}
 use Rattle.meaning.proofs.General.{build}
+use Rattle.moves.specs.Area.{Area}
 use Rattle.moves.specs.Layout.{head, mark, spare, next}
 use Rattle.moves.specs.Lists.{Ready}
 use Rattle.moves.specs.Walks.{Holding}
@@ -25,6 +26,14 @@ pub record State (n : ℕ) (ws W : List ℕ) (t : ℕ) : Type 0 where
   pub ready : Ready n ws W
   pub holding : Holding n ws W t
   pub known : Known n ws W
+
+-- the same of the whole area
+abbrev pub Stands : Area → Type 0
+Stands a = State a.n a.rules a.words a.tail
+
+-- v is a choice, and neither of its codes has a mark
+abbrev pub Open : Area → ℕ → Type 0
+Open a v = (v < a.n) × (mark a.n a.words (late v) ≡ 0) × (mark a.n a.words (early v) ≡ 0)
 
 -- the rota that the marks stand for: 1 where the choice's late code is in the set
 abbrev pub rota_of : ℕ → List ℕ → List ℕ

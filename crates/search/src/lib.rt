@@ -1,4 +1,4 @@
-// The search for the first rota, choice by choice. For the crates above only: its functions ask their callers for what specs/ calls `State`.
+// The search for the first rota, choice by choice. For the crates above only: its functions ask their callers for what specs/ calls `Stands`.
 #![tactic(auto)]
 
 pub mod first; // all choices in turn

@@ -5,6 +5,7 @@ use Prim.Native.Nat.{◌+◌, ◌*◌}
 use native.Mathlib.Omega.{arith}
 use native.Mathlib.Decide.{ℕ_discrete, dec_le, dec_lt}
 use lib.ListN.{get_or, replicate}
+use Rattle.std.specs.Prelude.{Ok, Err}
 use Rattle.meaning.specs.declared.refusal.Refusal.TheVariants.{CodeTooHigh, WorkTooShort, ValueTooHigh}
 use Rattle.meaning.specs.declared.answers.Decided.{Decided}
 use Rattle.meaning.specs.declared.answers.Listed.{Listed}
@@ -12,7 +13,7 @@ use Rattle.meaning.specs.declared.answers.Clashed.{Clashed}
 use Rattle.meaning.specs.declared.answers.Moved.{Moved}
 use Rattle.meaning.specs.Codes.{code_of, last_choice}
 use Rattle.meaning.specs.Promises.{Decides, Forces, TiesUp, Clashes, Moves}
-use Rattle.meaning.specs.Refusals.{Due, refused, as_due, list_due, next_due}
+use Rattle.meaning.specs.Refusals.{Due, refused, as_due, due_of, list_due, next_due}
 use Rattle.meaning.specs.Rotas.{Forced}
 use Rattle.meaning.specs.Rules.{InRange, left, right, rules}
 use Rattle.meaning.specs.Runs.{Run, EveryRota}
@@ -53,6 +54,10 @@ cleared_stays = refl
 pub as_due_lem : (as_due (WorkTooShort 0) ≡ refused 5 0) × (as_due (ValueTooHigh 9) ≡ refused 11 9)
 as_due_lem = (refl, refl)
 
+-- due_of: what an answer refuses, and nothing where it is one
+pub due_of_lem : (due_of {A = Listed} (Err (WorkTooShort 0)) ≡ refused 5 0) × (due_of (Ok Listed.Done) ≡ Due.none)
+due_of_lem = (refl, refl)
+
 -- list_due: 1, 2, 3, 6, 5, 4, each on an input for which all that come later are due too, and none where nothing is
 pub list_order : (list_due 257 (replicate 4099 999) 0 1 0 ≡ refused 1 0)
     × (list_due 1 (replicate 4099 999) 0 1 0 ≡ refused 2 0)
@@ -72,20 +77,20 @@ unfolding next_due
 next_order = (refl, refl, refl)
 
 -- Decides: Possible on case B with a byte and a word to spare, Impossible on case D, and a refusal on case K
-pub decide_b : Decides 1 [] (7 ∷ 7 ∷ []) (replicate 25 7) Decided.Possible (0 ∷ 7 ∷ []) (replicate 24 0 ++ 7 ∷ [])
+pub decide_b : Decides 1 [] (7 ∷ 7 ∷ []) (replicate 25 7) (Ok Decided.Possible) (0 ∷ 7 ∷ []) (replicate 24 0 ++ 7 ∷ [])
 unfolding list_due
 decide_b = record { refuses = refl; after = record { items = 0 ∷ []; right = right_b.1.0; written = refl; zeros = refl } }
 
-pub decide_d : Decides 1 case_d.ws (7 ∷ []) (replicate 36 7) (Decided.Impossible (record { 0 = 0 })) (7 ∷ []) (replicate 36 0)
+pub decide_d : Decides 1 case_d.ws (7 ∷ []) (replicate 36 7) (Ok (Decided.Impossible (record { 0 = 0 }))) (7 ∷ []) (replicate 36 0)
 unfolding list_due
 decide_d = record { refuses = refl; after = record { items = []; right = (right_d.1, refl); written = refl; zeros = refl } }
 
-pub decide_k : Decides 2 case_k.ws (7 ∷ 7 ∷ []) (replicate 38 7) (Decided.Refused (CodeTooHigh 1)) (7 ∷ 7 ∷ []) (replicate 38 7)
+pub decide_k : Decides 2 case_k.ws (7 ∷ 7 ∷ []) (replicate 38 7) (Err (CodeTooHigh 1)) (7 ∷ 7 ∷ []) (replicate 38 7)
 unfolding list_due
 decide_k = record { refuses = refl; after = record { area_stays = refl; work_stays = refl } }
 
 -- Forces: case J
-pub force_j : Forces 3 case_j.ws (7 ∷ 7 ∷ 7 ∷ 7 ∷ []) (replicate 58 7) Listed.Done (2 ∷ 2 ∷ 1 ∷ 7 ∷ []) (replicate 58 0)
+pub force_j : Forces 3 case_j.ws (7 ∷ 7 ∷ 7 ∷ 7 ∷ []) (replicate 58 7) (Ok Listed.Done) (2 ∷ 2 ∷ 1 ∷ 7 ∷ []) (replicate 58 0)
 unfolding list_due ℕ_discrete dec_le dec_lt
 force_j =
     record {
@@ -102,7 +107,7 @@ force_j =
     }
 
 -- TiesUp: case F
-pub tie_f : TiesUp 2 case_f.ws (7 ∷ 7 ∷ 7 ∷ []) (replicate 44 7) Listed.Done (0 ∷ 0 ∷ 7 ∷ []) (replicate 44 0)
+pub tie_f : TiesUp 2 case_f.ws (7 ∷ 7 ∷ 7 ∷ []) (replicate 44 7) (Ok Listed.Done) (0 ∷ 0 ∷ 7 ∷ []) (replicate 44 0)
 unfolding list_due
 tie_f =
     record {
@@ -116,7 +121,7 @@ tie_f =
     }
 
 -- Clashes: case G
-pub clash_g : Clashes 2 case_g.ws (replicate 8 7) (replicate 56 7) (Clashed.Chains (record { 0 = 0 }) 2 2) (2 ∷ 3 ∷ 0 ∷ 1 ∷ replicate 4 7) (replicate 56 0)
+pub clash_g : Clashes 2 case_g.ws (replicate 8 7) (replicate 56 7) (Ok (Clashed.Chains (record { 0 = 0 }) 2 2)) (2 ∷ 3 ∷ 0 ∷ 1 ∷ replicate 4 7) (replicate 56 0)
 unfolding list_due
 clash_g =
     record {
@@ -139,15 +144,15 @@ clash_g =
     }
 
 -- Moves: Moved after 010 in case I, Ended in case A, Impossible on case D
-pub move_i : Moves 3 case_i.ws (0 ∷ 1 ∷ 0 ∷ 7 ∷ []) (replicate 52 7) Moved.Moved (0 ∷ 1 ∷ 1 ∷ 7 ∷ []) (replicate 52 0)
+pub move_i : Moves 3 case_i.ws (0 ∷ 1 ∷ 0 ∷ 7 ∷ []) (replicate 52 7) (Ok Moved.Moved) (0 ∷ 1 ∷ 1 ∷ 7 ∷ []) (replicate 52 0)
 unfolding next_due
 move_i = record { refuses = refl; after = record { items = 0 ∷ 1 ∷ 1 ∷ []; right = right_i.5.0; written = refl; zeros = refl } }
 
-pub move_a : Moves 0 [] (7 ∷ []) (replicate 16 7) Moved.Ended (7 ∷ []) (replicate 16 0)
+pub move_a : Moves 0 [] (7 ∷ []) (replicate 16 7) (Ok Moved.Ended) (7 ∷ []) (replicate 16 0)
 unfolding next_due
 move_a = record { refuses = refl; after = record { items = []; right = (([], right_a.1.0.allowed), right_a.1.1, refl); written = refl; zeros = refl } }
 
-pub move_d : Moves 1 case_d.ws (0 ∷ []) (replicate 36 7) Moved.Impossible (0 ∷ []) (replicate 36 0)
+pub move_d : Moves 1 case_d.ws (0 ∷ []) (replicate 36 7) (Ok Moved.Impossible) (0 ∷ []) (replicate 36 0)
 unfolding next_due
 move_d = record { refuses = refl; after = record { items = []; right = (right_d.4, refl); written = refl; zeros = refl } }
 

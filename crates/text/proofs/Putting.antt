@@ -1,20 +1,16 @@
 -- Laws of bytes put at a place of an area: one after the other they are one text, and what has room as a whole has room piece by piece.
-use mathlib.Core.Path.{◌≡◌, refl, sym, ◌∙◌}
+use mathlib.Core.Path.{◌≡◌, refl, ◌∙◌}
 use mathlib.Core.List.{List, [], ◌∷◌, ◌++◌}
-use Prim.Native.Nat.{ℕ, ◌+◌, ◌≤◌, ◌<◌}
+use Prim.Native.Nat.{ℕ, ◌+◌, ◌<◌}
 use native.Mathlib.Omega.{arith}
 use lib.ListN.{length, set, length-append}
-use Rattle.meaning.specs.Sizes.{over}
-use Rattle.meaning.proofs.AreaLaws.{over_at_none, over_at_length, over_at_one, over_at_append}
-use Rattle.text.specs.Inner.{Room, Puts}
+use Rattle.meaning.proofs.AreaLaws.{over_at_length, over_at_one, over_at_append}
+use Rattle.text.specs.declared.fields.Text.{Text}
+use Rattle.text.specs.Inner.{Room, Puts, Grows}
 
 -- the area keeps its length
 pub puts_long : {bytes out : List ℕ} {at r : ℕ} {out' : List ℕ} → Puts bytes out at r out' → length out' ≡ length out
 puts_long {bytes} {out} {at} p = rw p.put (over_at_length at bytes out p.room.fits)
-
--- no bytes change nothing
-pub puts_none : {out : List ℕ} {at : ℕ} → at ≤ length out → Puts [] out at at out
-puts_none {out} {at} h = record { room = record { fits = omega arith }; end = omega arith; put = sym (over_at_none at out) }
 
 -- a store is one byte put
 pub puts_byte : (out : List ℕ) (at b : ℕ) → at < length out → Puts (b ∷ []) out at (at + 1) (set out at b)
@@ -37,6 +33,6 @@ room_first xs ys at out h = record { fits = omega (arith, length-append xs ys, h
 pub room_rest : {xs out : List ℕ} {at r : ℕ} {out' : List ℕ} (ys : List ℕ) → Puts xs out at r out' → Room (xs ++ ys) at out → Room ys r out'
 room_rest {xs} ys p h = record { fits = omega (arith, length-append xs ys, p.end, puts_long p, h.fits) }
 
--- bytes put at the very front
-pub puts_over : {bytes out : List ℕ} {r : ℕ} {out' : List ℕ} → Puts bytes out 0 r out' → (r ≡ length bytes) × (out' ≡ over bytes out)
-puts_over p = (omega (arith, p.end), p.put)
+-- a text that grows twice
+pub grows_append : {xs ys : List ℕ} {text text' text'' : Text} → Grows xs text text' → Grows ys text' text'' → Grows (xs ++ ys) text text''
+grows_append p q = record { same_area = q.same_area ∙ p.same_area; puts = puts_append p.puts q.puts }

@@ -9,7 +9,7 @@ use lib.Dec.{ltb}
 use lib.ListN.{length, take, drop, get_or, take-append-drop}
 use lib.Seq.{take-suc, drop-cons}
 use borrow.Author.Tests.{ltb-false, lt-ltb, le-ltb}
-use Rattle.text.specs.Text.{digits_up_to, digits, field, spelled, sign, signed, values, line_end, numbers_line}
+use Rattle.text.specs.Text.{digits_up_to, digits, field, spelled, signed, values, line_end, numbers_line}
 
 module _ (f : ℕ → List ℕ) where
   -- two lists
@@ -33,26 +33,10 @@ module _ (f : ℕ → List ℕ) where
 abbrev pub copied : ℕ → List ℕ
 copied x = x ∷ []
 
--- are spelled as they are
-pub spelled_copy : (xs : List ℕ) → spelled copied xs ≡ xs
-spelled_copy [] = refl
-spelled_copy (x ∷ xs) = ap (λ (l : List ℕ). x ∷ l) (spelled_copy xs)
-
--- what is neither 0 nor 1 is shown as a dot
-pub sign_other : (x : ℕ) → (x ≡ 0 → ⊥) → (x ≡ 1 → ⊥) → 46 ≡ sign x
-sign_other zero p q = absurd (p refl)
-sign_other (suc zero) p q = absurd (q refl)
-sign_other (suc (suc x)) p q = refl
-
 -- values, where there are some
 pub values_some : (xs : List ℕ) → (length xs ≡ 0 → ⊥) → values xs ≡ 32 ∷ spelled signed xs
 values_some [] h = absurd (h refl)
 values_some (x ∷ xs) h = refl
-
--- where there are none
-pub values_none : (xs : List ℕ) → length xs ≡ 0 → values xs ≡ []
-values_none [] h = refl
-values_none (x ∷ xs) h = absurd (omega arith)
 
 -- so many digits are enough, however many more may be found
 enough : (k j x : ℕ) → x ≤ k → x ≤ j → digits_up_to k x ≡ digits_up_to j x

@@ -1,94 +1,99 @@
-// The writers of fields: each puts its bytes at a place of the area and answers the place after them.
-ghost use Rattle.std.specs.Prelude.{◌+◌, ◌<◌, ◌≡◌, [], ◌∷◌};
+// A text that grows at the front of a lent area, and the writers of its fields.
+ghost use Rattle.std.specs.Prelude.{◌≡◌, ◌+◌, ◌<◌, [], ◌∷◌};
 ghost use Rattle.text.specs.Text.{digits, field, spelled, sign, signed, values};
-ghost use Rattle.text.specs.Inner.{Room, Puts};
+ghost use Rattle.text.specs.Inner.{Fits, Grows};
 
-pub(crate) fn put(out: &mut [u8], at: usize, bytes: &[u8]) -> usize
-    requires { Room bytes.now at out.old }
-    ensures { Puts bytes.now out.old at result out.new }
-{
-    let mut end = at;
-    let mut i = 0;
-    while i < bytes.len() {
-        out[end] = bytes[i];
-        end += 1;
-        i += 1;
+// The first `len` bytes of the area are the text. Each writer puts its bytes behind them.
+#[derive(Drop)]
+pub(crate) struct Text<'a> {
+    pub out: &'a mut [u8],
+    pub len: usize,
+}
+
+impl Text<'_> {
+    pub fn push(&mut self, bytes: &[u8])
+        requires { Fits bytes.now self.old }
+        ensures { Grows bytes.now self.old self.new }
+    {
+        let end = self.len + bytes.len();
+        self.out[self.len..end].copy_from_slice(bytes);
+        self.len = end;
     }
-    end
-}
 
-fn put_digit(out: &mut [u8], at: usize, x: usize) -> usize
-    requires { (x < 10) × Room ((48 + x) ∷ []) at out.old }
-    ensures { Puts ((48 + x) ∷ []) out.old at result out.new }
-{
-    out[at] = 48 + x as u8;
-    at + 1
-}
-
-fn put_digits(out: &mut [u8], at: usize, x: usize) -> usize
-    requires { Room (digits x) at out.old }
-    ensures { Puts (digits x) out.old at result out.new }
-{
-    if x < 10 {
-        return put_digit(out, at, x);
+    fn push_byte(&mut self, byte: u8)
+        requires { Fits (byte ∷ []) self.old }
+        ensures { Grows (byte ∷ []) self.old self.new }
+    {
+        self.out[self.len] = byte;
+        self.len += 1;
     }
-    let next = put_digits(out, at, x / 10);
-    put_digit(out, next, x % 10)
-}
 
-// A number with the space before it.
-pub(crate) fn put_field(out: &mut [u8], at: usize, x: usize) -> usize
-    requires { Room (field x) at out.old }
-    ensures { Puts (field x) out.old at result out.new }
-{
-    let next = put(out, at, b" ");
-    put_digits(out, next, x)
-}
-
-pub(crate) fn put_fields(out: &mut [u8], at: usize, numbers: &[u16]) -> usize
-    requires { Room (spelled field numbers.now) at out.old }
-    ensures { Puts (spelled field numbers.now) out.old at result out.new }
-{
-    let mut end = at;
-    let mut i = 0;
-    while i < numbers.len() {
-        end = put_field(out, end, numbers[i] as usize);
-        i += 1;
+    // By hand, and no Display: the promise says each byte.
+    fn push_digit(&mut self, x: usize)
+        requires { (x < 10) × Fits ((48 + x) ∷ []) self.old }
+        ensures { Grows ((48 + x) ∷ []) self.old self.new }
+    {
+        self.push_byte(48 + x as u8);
     }
-    end
+
+    fn push_digits(&mut self, x: usize)
+        requires { Fits (digits x) self.old }
+        ensures { Grows (digits x) self.old self.new }
+    {
+        if x < 10 {
+            return self.push_digit(x);
+        }
+        self.push_digits(x / 10);
+        self.push_digit(x % 10);
+    }
+
+    // A number with the space before it.
+    pub fn push_field(&mut self, x: usize)
+        requires { Fits (field x) self.old }
+        ensures { Grows (field x) self.old self.new }
+    {
+        self.push(b" ");
+        self.push_digits(x);
+    }
+
+    // This loop and the next differ in what they push for an item: one over both would need a trait with that as a law.
+    pub fn push_fields(&mut self, numbers: &[u16])
+        requires { Fits (spelled field numbers.now) self.old }
+        ensures { Grows (spelled field numbers.now) self.old self.new }
+    {
+        for x in numbers {
+            self.push_field(usize::from(*x));
+        }
+    }
+
+    fn push_signs(&mut self, bytes: &[u8])
+        requires { Fits (spelled signed bytes.now) self.old }
+        ensures { Grows (spelled signed bytes.now) self.old self.new }
+    {
+        for value in bytes {
+            self.push_byte(sign_of(*value));
+        }
+    }
+
+    // Values with the space before them; nothing where there are none.
+    pub fn push_values(&mut self, bytes: &[u8])
+        requires { Fits (values bytes.now) self.old }
+        ensures { Grows (values bytes.now) self.old self.new }
+    {
+        if bytes.is_empty() {
+            return;
+        }
+        self.push(b" ");
+        self.push_signs(bytes);
+    }
 }
 
 fn sign_of(value: u8) -> u8
     ensures { result ≡ sign value }
 {
-    if value == 0 {
-        return b'0';
+    match value {
+        0 => b'0',
+        1 => b'1',
+        _ => b'.',
     }
-    if value == 1 { b'1' } else { b'.' }
-}
-
-fn put_signs(out: &mut [u8], at: usize, bytes: &[u8]) -> usize
-    requires { Room (spelled signed bytes.now) at out.old }
-    ensures { Puts (spelled signed bytes.now) out.old at result out.new }
-{
-    let mut end = at;
-    let mut i = 0;
-    while i < bytes.len() {
-        out[end] = sign_of(bytes[i]);
-        end += 1;
-        i += 1;
-    }
-    end
-}
-
-// Values with the space before them; nothing where there are none.
-pub(crate) fn put_values(out: &mut [u8], at: usize, bytes: &[u8]) -> usize
-    requires { Room (values bytes.now) at out.old }
-    ensures { Puts (values bytes.now) out.old at result out.new }
-{
-    if bytes.len() == 0 {
-        return at;
-    }
-    let next = put(out, at, b" ");
-    put_signs(out, next, bytes)
 }

@@ -1,5 +1,5 @@
-// The lines of each answer as bytes. For the printing library only: its functions ask for an area that has room.
+// The lines of each answer as bytes. For the printing library only: its functions ask for an area in which the text has room.
 #![tactic(auto)]
 
-mod fields; // bytes, numbers and values, each put at a place of the area
+mod fields; // a text that grows, and the writers of its bytes, numbers and values
 pub mod lines; // the lines of each answer

@@ -1,80 +1,84 @@
 // The lines of each answer. A line is a fixed word, its fields, and LF.
-ghost use Rattle.std.specs.Prelude.{[], ◌∷◌, ◌≤◌, length, take, drop};
+ghost use Rattle.std.specs.Prelude.{[], ◌∷◌, ◌≤◌, length};
 ghost use Rattle.meaning.specs.Refusals.{number_of, place_of};
 ghost use Rattle.text.specs.Text.{text_needs, numbers_line, values_line, possible_text, impossible_text, refusal_text};
-ghost use Rattle.text.specs.Inner.{Room, Puts};
+ghost use Rattle.text.specs.Inner.{Room, Puts, Fits, Grows};
 
-use crate::fields::{put, put_field, put_fields, put_values};
+use crate::fields::Text;
 use meaning::{Choice, Refusal};
 
-// A line of a word and two numbers.
-fn put_pair(out: &mut [u8], at: usize, word: &[u8], a: usize, b: usize) -> usize
-    requires { Room (numbers_line word.now (a ∷ b ∷ [])) at out.old }
-    ensures { Puts (numbers_line word.now (a ∷ b ∷ [])) out.old at result out.new }
-{
-    let first = put(out, at, word);
-    let second = put_field(out, first, a);
-    let third = put_field(out, second, b);
-    put(out, third, b"\n")
-}
+impl Text<'_> {
+    // A line of a word and two numbers.
+    #[tactic(auto, unfolding(crate::specs::Text::numbers_line))]
+    fn push_pair(&mut self, word: &[u8], a: usize, b: usize)
+        requires { Fits (numbers_line word.now (a ∷ b ∷ [])) self.old }
+        ensures { Grows (numbers_line word.now (a ∷ b ∷ [])) self.old self.new }
+    {
+        self.push(word);
+        self.push_field(a);
+        self.push_field(b);
+        self.push(b"\n");
+    }
 
-// A line of a word and any count of numbers.
-fn put_numbers(out: &mut [u8], at: usize, word: &[u8], numbers: &[u16]) -> usize
-    requires { Room (numbers_line word.now numbers.now) at out.old }
-    ensures { Puts (numbers_line word.now numbers.now) out.old at result out.new }
-{
-    let first = put(out, at, word);
-    let second = put_fields(out, first, numbers);
-    put(out, second, b"\n")
-}
+    // A line of a word and any count of numbers.
+    #[tactic(auto, unfolding(crate::specs::Text::numbers_line))]
+    fn push_numbers(&mut self, word: &[u8], numbers: &[u16])
+        requires { Fits (numbers_line word.now numbers.now) self.old }
+        ensures { Grows (numbers_line word.now numbers.now) self.old self.new }
+    {
+        self.push(word);
+        self.push_fields(numbers);
+        self.push(b"\n");
+    }
 
-// A line of a word and the values of all choices.
-fn put_row(out: &mut [u8], at: usize, word: &[u8], bytes: &[u8]) -> usize
-    requires { Room (values_line word.now bytes.now) at out.old }
-    ensures { Puts (values_line word.now bytes.now) out.old at result out.new }
-{
-    let first = put(out, at, word);
-    let second = put_values(out, first, bytes);
-    put(out, second, b"\n")
+    // A line of a word and the values of all choices: not `push_numbers`, since values have no spaces between.
+    #[tactic(auto, unfolding(crate::specs::Text::values_line))]
+    fn push_row(&mut self, word: &[u8], bytes: &[u8])
+        requires { Fits (values_line word.now bytes.now) self.old }
+        ensures { Grows (values_line word.now bytes.now) self.old self.new }
+    {
+        self.push(word);
+        self.push_values(bytes);
+        self.push(b"\n");
+    }
 }
 
 pub fn put_possible(out: &mut [u8], n: usize, m: usize, rota: &[u8], forced: &[u8]) -> usize
     requires { Room (possible_text n m rota.now forced.now) 0 out.old }
     ensures { Puts (possible_text n m rota.now forced.now) out.old 0 result out.new }
 {
-    let first = put_pair(out, 0, b"possible", n, m);
-    let second = put_row(out, first, b"rota", rota);
-    put_row(out, second, b"forced", forced)
+    let mut text = Text { out, len: 0 };
+    text.push_pair(b"possible", n, m);
+    text.push_row(b"rota", rota);
+    text.push_row(b"forced", forced);
+    text.len
 }
 
-// The two chains stand one after the other; the second begins at the place `there`.
 pub fn put_impossible(
     out: &mut [u8],
     n: usize,
     m: usize,
     choice: Choice,
-    chains: &[u16],
-    there: usize,
+    late_early: &[u16],
+    early_late: &[u16],
 ) -> usize
-    requires { (there ≤ length chains.now) × Room (impossible_text n m choice.0 (take there chains.now) (drop there chains.now)) 0 out.old }
-    ensures { Puts (impossible_text n m choice.0 (take there chains.now) (drop there chains.now)) out.old 0 result out.new }
+    requires { Room (impossible_text n m choice.0 late_early.now early_late.now) 0 out.old }
+    ensures { Puts (impossible_text n m choice.0 late_early.now early_late.now) out.old 0 result out.new }
 {
-    let v = [choice.0];
-    let first = put_pair(out, 0, b"impossible", n, m);
-    let second = put_numbers(out, first, b"choice", &v);
-    let third = put_numbers(out, second, b"late-early", &chains[..there]);
-    put_numbers(out, third, b"early-late", &chains[there..])
+    let mut text = Text { out, len: 0 };
+    text.push_pair(b"impossible", n, m);
+    text.push_numbers(b"choice", &[choice.0]);
+    text.push_numbers(b"late-early", late_early);
+    text.push_numbers(b"early-late", early_late);
+    text.len
 }
 
 pub fn put_refusal(out: &mut [u8], refusal: Refusal) -> usize
     requires { text_needs ≤ length out.old }
     ensures { Puts (refusal_text (number_of refusal) (place_of refusal)) out.old 0 result out.new }
 {
-    put_pair(
-        out,
-        0,
-        b"refused",
-        refusal.number() as usize,
-        refusal.place(),
-    )
+    let mut text = Text { out, len: 0 };
+    // A cast, since a `u32` has no From to a `usize`: it fits.
+    text.push_pair(b"refused", refusal.number() as usize, refusal.place());
+    text.len
 }

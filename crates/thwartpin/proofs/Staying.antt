@@ -1,4 +1,5 @@
 -- What the host may count on: the rota changes only with 0, and past the book's own refusals only 6, and for Next 11, can come.
+use Rattle.std.specs.Prelude.{Result, Ok, Err}
 use mathlib.Core.Path.{◌≡◌, refl, sym, ap, ◌∙◌}
 use mathlib.Core.Bool.{true, false}
 use mathlib.Core.Logic.{inl, inr}
@@ -9,57 +10,55 @@ use borrow.Author.Tests.{le-ltb}
 use lib.ListN.{length, take, replicate, length-replicate}
 use Rattle.meaning.specs.declared.answers.Decided.{Decided}
 use Rattle.meaning.specs.declared.answers.Moved.{Moved}
-use Rattle.book.specs.declared.answer.Read.{Read}
+use Rattle.meaning.specs.declared.refusal.Refusal.{Refusal}
 use Rattle.book.specs.Checks.{choices_in, rules_in, codes_in, book_due}
 use Rattle.book.specs.Promise.{Reads}
 use Rattle.book.specs.Saved.{Savable}
 use Rattle.meaning.specs.Promises.{After, DecideSays, NextSays}
-use Rattle.meaning.specs.Refusals.{Due, none, refused, Check, check, first_of, short_place, over_check, room_check, list_checks, list_due, next_due}
+use Rattle.meaning.specs.Refusals.{none, Check, check, first_of, short_place, over_check, room_check, list_checks, list_due, next_due}
 use Rattle.meaning.specs.Sizes.{rota_needs, work_needs, over, words_room, work_room}
 use Rattle.thwartpin.specs.Hosts.{HostDecides, HostMoves}
-use Rattle.numbers.specs.Numbers.{host_decided, host_moved}
+use Rattle.numbers.specs.Numbers.{number_or, host_decided, host_moved}
 use Rattle.book.proofs.GivenLists.{read_is_list, saved_due}
 use Rattle.book.proofs.Refusing.{last_none}
 use Rattle.meaning.proofs.RefusalLaws.{none_applies, due_behind, due_ahead}
 use Rattle.thwartpin.proofs.Hosting.{fresh}
 
 -- a call that is refused, or whose answer writes no item, leaves its area as it was
-module _ {A : Type 0} (says : A → List ℕ → Type 0) (n : ℕ) (ws area work : List ℕ) (a : A) (area' work' : List ℕ) (empty : (xs : List ℕ) → says a xs → xs ≡ []) where
-  after_stays : (due : Due) → After due (says a) n ws area work area' work' → area' ≡ area
-  after_stays none p = p.written ∙ ap (λ (xs : List ℕ). over xs area) (empty p.items p.right)
-  after_stays (refused number place) p = p.area_stays
+module _ {A : Type 0} (number : A → ℕ) (says : A → List ℕ → Type 0) (empty : (a : A) → (number a ≡ 0 → ⊥) → (xs : List ℕ) → says a xs → xs ≡ [])
+    (n : ℕ) (ws area work : List ℕ) where
+  after_stays : (a : Result A Refusal) (area' work' : List ℕ) → (number_or number a ≡ 0 → ⊥) → After says n ws area work a area' work' → area' ≡ area
+  after_stays (Ok a) area' work' h p = p.written ∙ ap (λ (xs : List ℕ). over xs area) (empty a h p.items p.right)
+  after_stays (Err r) area' work' h p = p.area_stays
 
 -- an answer whose number is not 0 writes nothing
 decided_empty : (n : ℕ) (ws : List ℕ) (a : Decided) → (host_decided a ≡ 0 → ⊥) → (xs : List ℕ) → DecideSays n ws a xs → xs ≡ []
 decided_empty n ws Decided.Possible h xs p = absurd (h refl)
 decided_empty n ws (Decided.Impossible v) h xs p = p.1
-decided_empty n ws (Decided.Refused r) h xs p = absurd p
 
 moved_empty : (n : ℕ) (ws rota : List ℕ) (a : Moved) → (host_moved a ≡ 0 → ⊥) → (xs : List ℕ) → NextSays n ws rota a xs → xs ≡ []
 moved_empty n ws rota Moved.Moved h xs p = absurd (h refl)
 moved_empty n ws rota Moved.Ended h xs p = p.2
 moved_empty n ws rota Moved.Impossible h xs p = p.1
-moved_empty n ws rota (Moved.Refused r) h xs p = absurd p
 
 -- the rota changes only with 0
 pub decide_stays : (book rota : List ℕ) (r : ℕ) (rota' : List ℕ) → HostDecides book rota r rota' → (r ≡ 0 → ⊥) → rota' ≡ rota
 decide_stays book rota r rota' (inl t) h = t.stays
 decide_stays book rota r rota' (inr c) h =
-    after_stays (DecideSays (choices_in book) (codes_in book)) (choices_in book) (codes_in book) rota (replicate work_room 0) c.answer rota' c.work'
-    (decided_empty (choices_in book) (codes_in book) c.answer (λ e. h (c.numbered ∙ e)))
-    (list_due (choices_in book) (codes_in book) (length rota) (rota_needs (choices_in book)) (length (replicate {A = ℕ} work_room 0))) c.kept.after
+    after_stays host_decided (DecideSays (choices_in book) (codes_in book)) (decided_empty (choices_in book) (codes_in book)) (choices_in book) (codes_in book) rota
+    (replicate work_room 0) c.answer rota' c.work' (λ e. h (c.numbered ∙ e)) c.kept.after
 
 pub next_stays : (book rota : List ℕ) (r : ℕ) (rota' : List ℕ) → HostMoves book rota r rota' → (r ≡ 0 → ⊥) → rota' ≡ rota
 next_stays book rota r rota' (inl t) h = t.stays
 next_stays book rota r rota' (inr c) h =
-    after_stays (NextSays (choices_in book) (codes_in book) (take (choices_in book) rota)) (choices_in book) (codes_in book) rota (replicate work_room 0) c.answer rota' c.work'
-    (moved_empty (choices_in book) (codes_in book) (take (choices_in book) rota) c.answer (λ e. h (c.numbered ∙ e)))
-    (next_due (choices_in book) (codes_in book) rota (length (replicate {A = ℕ} work_room 0))) c.kept.after
+    let given = take (choices_in book) rota in
+    after_stays host_moved (NextSays (choices_in book) (codes_in book) given) (moved_empty (choices_in book) (codes_in book) given) (choices_in book) (codes_in book) rota
+    (replicate work_room 0) c.answer rota' c.work' (λ e. h (c.numbered ∙ e)) c.kept.after
 
 -- a good book's list has a book
 good_savable : (book : List ℕ) → book_due book words_room ≡ none → Savable (choices_in book) (codes_in book) words_room
 good_savable book e =
-    let r : Reads book fresh (Read.Book (choices_in book) (rules_in book)) (over (codes_in book) fresh) =
+    let r : Reads book fresh (Ok (record { n = choices_in book; m = rules_in book })) (over (codes_in book) fresh) =
     record { refuses = sym (ap (book_due book) (length-replicate {A = ℕ} words_room 0) ∙ e); says = (refl, refl, refl) } in
     rw (length-replicate {A = ℕ} words_room 0) at (read_is_list book fresh (choices_in book) (rules_in book) (over (codes_in book) fresh) r).savable
 

@@ -1,10 +1,11 @@
 -- What a call for C that is lent its areas promises: the call's own promise, with the answer as a number and as values in `out`.
 -- A name with ' is the area after the call.
-use Rattle.std.specs.Prelude.{◌≡◌, ◌⊎◌, List, ℕ, ◌≤◌, ◌<◌, length}
+use Rattle.std.specs.Prelude.{◌≡◌, Result, ◌⊎◌, List, ℕ, ◌≤◌, ◌<◌, length}
 use Rattle.book.specs.Promise.{Reads}
 use Rattle.meaning.specs.Promises.{Decides, Forces, TiesUp, Clashes, Moves}
 use Rattle.meaning.specs.Sizes.{over}
-use Rattle.numbers.specs.Numbers.{out_needs, out_short, decided_number, decided_values, listed_number, listed_values, clashed_number, clashed_values, moved_number, moved_values, read_number, read_values}
+use Rattle.meaning.specs.declared.refusal.Refusal.{Refusal}
+use Rattle.numbers.specs.Numbers.{out_needs, out_short, number_or, values_or, decided_number, decided_values, listed_number, listed_values, clashed_number, clashed_values, moved_number, moved_values, read_number, read_values}
 
 -- the areas of a call on a list: its answer's and its work
 pub record Areas : Type 0 where
@@ -22,18 +23,18 @@ pub record Untold {S : Type 0} (before : S) (out : List ℕ) (r : ℕ) (after : 
   pub out_stays : out' ≡ out
 
 -- an answer that keeps the call's promise is told by its number, and its values stand at the front of out
-pub record Told {A S : Type 0} (number : A → ℕ) (values : A → List ℕ) (keeps : A → S → Type 0) (out : List ℕ) (r : ℕ) (after : S) (out' : List ℕ) : Type 0 where
+pub record Told {A S : Type 0} (number : A → ℕ) (values : A → List ℕ) (keeps : Result A Refusal → S → Type 0) (out : List ℕ) (r : ℕ) (after : S) (out' : List ℕ) : Type 0 where
   pub room : out_needs ≤ length out
-  pub answer : A
+  pub answer : Result A Refusal
   pub kept : keeps answer after
-  pub numbered : r ≡ number answer
-  pub given : out' ≡ over (values answer) out
+  pub numbered : r ≡ number_or number answer
+  pub given : out' ≡ over (values_or values answer) out
 
-abbrev pub Tells : {A S : Type 0} → (A → ℕ) → (A → List ℕ) → (A → S → Type 0) → S → List ℕ → ℕ → S → List ℕ → Type 0
+abbrev pub Tells : {A S : Type 0} → (A → ℕ) → (A → List ℕ) → (Result A Refusal → S → Type 0) → S → List ℕ → ℕ → S → List ℕ → Type 0
 Tells number values keeps before out r after out' = Untold before out r after out' ⊎ Told number values keeps out r after out'
 
 -- the promise of a call on a list, with its areas afterwards as one
-abbrev pub On : {A : Type 0} → (A → List ℕ → List ℕ → Type 0) → A → Areas → Type 0
+abbrev pub On : {A : Type 0} → (Result A Refusal → List ℕ → List ℕ → Type 0) → Result A Refusal → Areas → Type 0
 On promise a after = promise a after.answer after.work
 
 module _ (n : ℕ) (ws area work out : List ℕ) where

@@ -1,13 +1,14 @@
 // The calls of the C face: what include/thwartpin.h declares and crate thwartpin_c exports. Each call is thin over the engine's or the book's, and no caller has to
-// prove anything: whatever lies in the areas, the answer is the one that specs/ leaves open.
+// prove anything: whatever lies in the areas, the answer is the one that specs/ leaves open. A function for each
+// call, as C sees them: one frame over a closure would have to say in its clause what the closure leaves in the areas.
 #![tactic(auto)]
 
 ghost use Rattle.thwartpin.specs.Lists.{areas, TellsDecided, TellsForced, TellsClash, TellsMoved, TellsTies, TellsRead};
 ghost use Rattle.thwartpin.specs.Hosts.{HostDecides, HostMoves};
 
-use book::Read;
+use book::Sizes;
 use meaning::{WORDS_ROOM, WORK_ROOM};
-use numbers::tell;
+use numbers::tell::{host_decided, host_moved, tell};
 
 // The least length of `out`, and the answer where it is shorter.
 const OUT_NEEDS: usize = 3;
@@ -26,7 +27,7 @@ pub fn thwartpin_list_decide(
     if out.len() < OUT_NEEDS {
         return OUT_SHORT;
     }
-    tell::decided(engine::decide(n, words, rota, work), out)
+    tell(engine::decide(n, words, rota, work), out)
 }
 
 pub fn thwartpin_list_forced(
@@ -41,7 +42,7 @@ pub fn thwartpin_list_forced(
     if out.len() < OUT_NEEDS {
         return OUT_SHORT;
     }
-    tell::listed(engine::forced(n, words, forced, work), out)
+    tell(engine::forced(n, words, forced, work), out)
 }
 
 pub fn thwartpin_list_clash(
@@ -56,7 +57,7 @@ pub fn thwartpin_list_clash(
     if out.len() < OUT_NEEDS {
         return OUT_SHORT;
     }
-    tell::clashed(engine::clash(n, words, chain, work), out)
+    tell(engine::clash(n, words, chain, work), out)
 }
 
 pub fn thwartpin_list_next(
@@ -71,7 +72,7 @@ pub fn thwartpin_list_next(
     if out.len() < OUT_NEEDS {
         return OUT_SHORT;
     }
-    tell::moved(engine::next(n, words, rota, work), out)
+    tell(engine::next(n, words, rota, work), out)
 }
 
 pub fn thwartpin_list_ties(
@@ -86,7 +87,7 @@ pub fn thwartpin_list_ties(
     if out.len() < OUT_NEEDS {
         return OUT_SHORT;
     }
-    tell::listed(engine::ties(n, words, ties, work), out)
+    tell(engine::ties(n, words, ties, work), out)
 }
 
 pub fn thwartpin_read_book(book: &[u8], words: &mut [u16], out: &mut [u64]) -> u32
@@ -95,21 +96,21 @@ pub fn thwartpin_read_book(book: &[u8], words: &mut [u16], out: &mut [u64]) -> u
     if out.len() < OUT_NEEDS {
         return OUT_SHORT;
     }
-    tell::read(book::read(book, words), out)
+    tell(book::read(book, words), out)
 }
 
-// The host's calls. What they work in is their own, at full size, so that a host lends the book and the rota alone.
+// The host's calls. What they work in is their own, at full size, so that a host lends the book and the rota alone. They have one shape:
+// over a closure, a clause would have to say what the closure leaves in the rota.
 pub fn thwartpin_decide(book: &[u8], rota: &mut [u8]) -> u32
     ensures { HostDecides book.now rota.old result rota.new }
 {
     let mut words = [0u16; WORDS_ROOM];
     let mut work = [0u16; WORK_ROOM];
-    let read = book::read(book, &mut words);
-    match read {
-        Read::Refused(refusal) => refusal.number(),
-        Read::Book { n, m } => {
+    match book::read(book, &mut words) {
+        Err(refusal) => refusal.number(),
+        Ok(Sizes { n, m }) => {
             let count = 2 * m;
-            tell::host_decided(engine::decide(n, &words[..count], rota, &mut work))
+            host_decided(engine::decide(n, &words[..count], rota, &mut work))
         }
     }
 }
@@ -119,12 +120,11 @@ pub fn thwartpin_next(book: &[u8], rota: &mut [u8]) -> u32
 {
     let mut words = [0u16; WORDS_ROOM];
     let mut work = [0u16; WORK_ROOM];
-    let read = book::read(book, &mut words);
-    match read {
-        Read::Refused(refusal) => refusal.number(),
-        Read::Book { n, m } => {
+    match book::read(book, &mut words) {
+        Err(refusal) => refusal.number(),
+        Ok(Sizes { n, m }) => {
             let count = 2 * m;
-            tell::host_moved(engine::next(n, &words[..count], rota, &mut work))
+            host_moved(engine::next(n, &words[..count], rota, &mut work))
         }
     }
 }

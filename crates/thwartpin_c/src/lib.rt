@@ -1,4 +1,5 @@
-// The exports of the C face. Each hands its call on to crate thwartpin, and promises what that call promises.
+// The exports of the C face. Each hands its call on to crate thwartpin, and promises what that call promises. C has no generics: so there
+// is a function for each call.
 #![tactic(auto)]
 
 ghost use Rattle.thwartpin.specs.Lists.{areas, TellsDecided, TellsForced, TellsClash, TellsMoved, TellsTies, TellsRead};

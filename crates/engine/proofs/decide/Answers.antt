@@ -1,35 +1,33 @@
--- `decide` keeps its promise: it refuses what is due, or else searches and answers what the search found.
-use mathlib.Core.Path.{refl, sym}
-use native.Mathlib.Omega.{arith}
+-- `decide` keeps its promise: it searches, and answers what the search found.
+use mathlib.Core.Path.{refl, sym, ◌∙◌}
+use mathlib.Core.List.{[]}
+use Rattle.std.proofs.Common.{arith}
 use Rattle.meaning.proofs.RefusalLaws.{accepted}
-use Rattle.moves.proofs.Places.{tables, sizes_long}
-use Rattle.engine.proofs.Answering.{refuses, decides_first, decides_clash}
+use Rattle.search.specs.State.{rota_of}
+use Rattle.engine.proofs.Answering.{first_found, clash_found}
+use Rattle.engine.proofs.Fronts.{front_sizes, answers}
 use Rattle.engine.proofs.decide.Goals as goal
+use Rattle.engine.proofs.decide.Goals.{in-Ok, in-Err}
 
-pub returns-in-Refused : goal.returns-in-Refused
-returns-in-Refused c = refuses _ _ _ _ _ _ _ _ _ c.in-Refused.refusal (rw c.in-Refused.is at c.begin-begun.ensures) refl
-
-pub search-found-requires : goal.search-found-requires
-search-found-requires c = let b = rw c.in_default.is at c.begin-begun.ensures in
-    record { state = b.1.state; from_le_n = omega arith }
+pub new-state-requires : goal.new-state-requires
+new-state-requires c = front_sizes _ _ _ _ c.in_ok-used.ensures.used _ _ (accepted _ _ _ _ _ (sym c.in_ok-used.ensures.due))
 
 pub put_rota-requires : goal.put_rota-requires
-put_rota-requires c = let s = rw c.in-Whole.is at c.search-found.ensures in
-    let b = rw c.in_default.is at c.begin-begun.ensures in
-    (omega (arith, s.state.ready.sizes.few), tables s.state.ready.sizes, (accepted _ _ _ _ _ (sym b.0)).room)
+put_rota-requires c =
+    let accepts = accepted _ _ _ _ _ (sym c.in_ok-used.ensures.due) in
+    let same = c.view.ensures.choices ∙ c.search.ensures.same.choices ∙ c.new-state.ensures.choices in
+    (omega (arith, same, accepts.choices), omega (arith, same, accepts.room))
 
-pub finish-requires : goal.finish-requires
-finish-requires c = let s = rw c.in-Whole.is at c.search-found.ensures in
-    s.state.ready.sizes
-
-pub finish-requires-in-Stuck : goal.finish-requires-in-Stuck
-finish-requires-in-Stuck c = let b = rw c.in_default.is at c.begin-begun.ensures in
-    sizes_long b.1.state.ready.sizes c.search-found.auto.work
-
-pub returns-in-Whole : goal.returns-in-Whole
-returns-in-Whole c = let b = rw c.in_default.is at c.begin-begun.ensures in
-    decides_first _ _ _ _ _ b.0 b.1 _ _ (rw c.in-Whole.is at c.search-found.ensures) _ _ c.put_rota.ensures c.finish.ensures
-
-pub returns-in-Stuck : goal.returns-in-Stuck
-returns-in-Stuck c = let b = rw c.in_default.is at c.begin-begun.ensures in
-    decides_clash _ _ _ _ _ b.0 b.1 _ _ _ _ (rw c.in-Stuck.is at c.search-found.ensures) c.finish-in-Stuck.ensures
+pub returns : goal.returns
+returns c =
+    let long = c.match-search.auto.front in
+    elim c.match-search.branch [
+      | in-Ok w ↦ rw (w.rota-is, w.answer-is)
+          (answers _ _ _ _ c.in_ok-used.ensures.used _ _ _ _ _ _ (rota_of c.args.n c.search.new.work.words) _ long c.finish.ensures c.in_ok-used.ensures.due
+          (first_found c.new-state.ensures w.in-Ok.ensures)
+          (rw (w.view.ensures.choices ∙ c.search.ensures.same.choices ∙ c.new-state.ensures.choices, w.view.ensures.words) at w.put_rota.ensures))
+      | in-Err w ↦ rw (w.rota-is, w.answer-is)
+          (answers _ _ _ _ c.in_ok-used.ensures.used _ _ _ _ _ _ [] _ long c.finish.ensures c.in_ok-used.ensures.due
+          (clash_found c.new-state.ensures w.in-Err.ensures, refl)
+          refl)
+    ]

@@ -1,38 +1,35 @@
--- `forced` keeps its promise: it refuses what is due, or else searches, finds out about all codes and answers by the notes.
-use mathlib.Core.Path.{refl, sym}
-use native.Mathlib.Omega.{arith}
+-- `forced` keeps its promise: it searches, finds out about all codes and answers by the notes.
+use mathlib.Core.Path.{refl, sym, ◌∙◌}
+use mathlib.Core.List.{[]}
+use Rattle.std.proofs.Common.{arith}
+use Rattle.meaning.proofs.ChainLaws.{clash_impossible}
 use Rattle.meaning.proofs.RefusalLaws.{accepted}
-use Rattle.moves.proofs.Places.{tables, sizes_long}
-use Rattle.engine.proofs.Answering.{refuses, forces_bytes, forces_none}
+use Rattle.rounds.specs.Rounds.{forced_of}
+use Rattle.search.specs.State.{rota_of}
+use Rattle.engine.proofs.Answering.{first_found, clash_found, forced_found}
+use Rattle.engine.proofs.Fronts.{front_sizes, answers}
 use Rattle.engine.proofs.forced.Goals as goal
+use Rattle.engine.proofs.forced.Goals.{in-Ok, in-Err}
 
-pub returns-in-Refused : goal.returns-in-Refused
-returns-in-Refused c = refuses _ _ _ _ _ _ _ _ _ c.in-Refused.refusal (rw c.in-Refused.is at c.begin-begun.ensures) refl
-
-pub search-found-requires : goal.search-found-requires
-search-found-requires c = let b = rw c.in_default.is at c.begin-begun.ensures in
-    record { state = b.1.state; from_le_n = omega arith }
-
-pub finish-requires : goal.finish-requires
-finish-requires c = let b = rw c.in_default.is at c.begin-begun.ensures in
-    sizes_long b.1.state.ready.sizes c.search-found.auto.work
-
-pub returns-in_default-found : goal.returns-in_default-found
-returns-in_default-found c = let b = rw c.in_default.is at c.begin-begun.ensures in
-    forces_none _ _ _ _ _ b.0 b.1 _ _ _ _ (rw c.in_default-found.is at c.search-found.ensures) c.finish.ensures
-
-pub sweep-requires : goal.sweep-requires
-sweep-requires c = let s = rw c.in-Whole.is at c.search-found.ensures in
-    s.state
+pub new-state-requires : goal.new-state-requires
+new-state-requires c = front_sizes _ _ _ _ c.in_ok-used.ensures.used _ _ (accepted _ _ _ _ _ (sym c.in_ok-used.ensures.due))
 
 pub put_forced-requires : goal.put_forced-requires
-put_forced-requires c = let s = c.sweep.ensures.more.state.ready.sizes in
-    let b = rw c.in_default.is at c.begin-begun.ensures in
-    (s.few, tables s, (accepted _ _ _ _ _ (sym b.0)).room)
-
-pub finish-requires-2 : goal.finish-requires-2
-finish-requires-2 c = c.sweep.ensures.more.state.ready.sizes
+put_forced-requires c =
+    let accepts = accepted _ _ _ _ _ (sym c.in_ok-used.ensures.due) in
+    let same = c.view.ensures.choices ∙ c.sweep.ensures.same.choices ∙ c.search.ensures.same.choices ∙ c.new-state.ensures.choices in
+    (omega (arith, same, accepts.choices), omega (arith, same, accepts.room))
 
 pub returns : goal.returns
-returns c = let b = rw c.in_default.is at c.begin-begun.ensures in
-    forces_bytes _ _ _ _ _ b.0 b.1 _ _ (rw c.in-Whole.is at c.search-found.ensures) _ _ _ c.sweep.ensures c.put_forced.ensures c.finish-2.ensures
+returns c =
+    let long = c.match-search.auto.front in
+    elim c.match-search.branch [
+      | in-Ok w ↦ rw (w.area-is, w.answer-is)
+          (answers _ _ _ _ c.in_ok-used.ensures.used _ _ _ _ _ _ (forced_of c.args.n w.sweep.new.work.words) _ long c.finish.ensures c.in_ok-used.ensures.due
+          ((rota_of c.args.n c.search.new.work.words, (first_found c.new-state.ensures w.in-Ok.ensures).allowed), forced_found c.new-state.ensures _ w.in-Ok.ensures w.sweep.ensures)
+          (rw (w.view.ensures.choices ∙ w.sweep.ensures.same.choices ∙ c.search.ensures.same.choices ∙ c.new-state.ensures.choices, w.view.ensures.words) at w.put_forced.ensures))
+      | in-Err w ↦ rw (w.area-is, w.answer-is)
+          (answers _ _ _ _ c.in_ok-used.ensures.used _ _ _ _ _ _ [] _ long c.finish.ensures c.in_ok-used.ensures.due
+          (clash_impossible _ _ _ (clash_found c.new-state.ensures w.in-Err.ensures).clash, refl)
+          refl)
+    ]

@@ -1,40 +1,42 @@
--- `ties` keeps its promise: it refuses what is due, or else walks the components and answers by them.
-use mathlib.Core.Path.{refl, sym}
-use native.Mathlib.Omega.{arith}
+-- `ties` keeps its promise: it walks the components and answers by them.
+use mathlib.Core.Path.{refl, sym, ◌∙◌}
+use mathlib.Core.List.{[]}
+use Rattle.std.proofs.Common.{arith, true, false}
+use Rattle.components.proofs.Answers.{possible_of}
+use Rattle.components.specs.Leads.{Leads, SomeClash}
+use Rattle.meaning.proofs.ChainLaws.{clash_impossible}
 use Rattle.meaning.proofs.RefusalLaws.{accepted}
-use Rattle.moves.proofs.Places.{sizes_long}
-use Rattle.engine.proofs.Answering.{refuses, ties_written, ties_none}
+use Rattle.engine.proofs.Fronts.{front_sizes, answers}
 use Rattle.engine.proofs.ties.Goals as goal
+use Rattle.engine.proofs.ties.Goals.{then-some_clash, else-some_clash}
 
-pub returns-in-Refused : goal.returns-in-Refused
-returns-in-Refused c = refuses _ _ _ _ _ _ _ _ _ c.in-Refused.refusal (rw c.in-Refused.is at c.begin-begun.ensures) refl
-
-pub components-requires : goal.components-requires
-components-requires c = let b = rw c.in_default.is at c.begin-begun.ensures in
-    record { ready = b.1.state.ready; by_index = b.1.unmarked }
-
-pub some_clash-requires : goal.some_clash-requires
-some_clash-requires c = let b = rw c.in_default.is at c.begin-begun.ensures in
-    let s = b.1.state.ready.sizes in
-    (s.few, omega (arith, s.room, c.components.ensures.side.long))
-
-pub finish-requires : goal.finish-requires
-finish-requires c = let b = rw c.in_default.is at c.begin-begun.ensures in
-    sizes_long b.1.state.ready.sizes c.components.ensures.side.long
-
-pub returns-then-some_clash : goal.returns-then-some_clash
-returns-then-some_clash c = let b = rw c.in_default.is at c.begin-begun.ensures in
-    ties_none _ _ _ _ _ b.0 b.1 _ _ c.components.ensures.side c.finish.ensures (rw c.if-some_clash.true at (c.some_clash.ensures _ c.components.ensures.leads))
+pub prepare-requires : goal.prepare-requires
+prepare-requires c = front_sizes _ _ _ _ c.in_ok-used.ensures.used _ _ (accepted _ _ _ _ _ (sym c.in_ok-used.ensures.due))
 
 pub put_ties-requires : goal.put_ties-requires
-put_ties-requires c = let b = rw c.in_default.is at c.begin-begun.ensures in
-    let s = b.1.state.ready.sizes in
-    record { n_le_max_choices = (s.few, omega (arith, s.room, c.components.ensures.side.long), (accepted _ _ _ _ _ (sym b.0)).room); all_settled = c.components.ensures.leads.settled }
-
-pub finish-requires-2 : goal.finish-requires-2
-finish-requires-2 c = let b = rw c.in_default.is at c.begin-begun.ensures in
-    sizes_long b.1.state.ready.sizes c.components.ensures.side.long
+put_ties-requires c = record {
+  settled = rw c.components-ranks.ensures.n c.components-ranks.ensures.leads.settled;
+  room = omega (arith, c.components-ranks.ensures.n, (accepted _ _ _ _ _ (sym c.in_ok-used.ensures.due)).room);
+}
 
 pub returns : goal.returns
-returns c = let b = rw c.in_default.is at c.begin-begun.ensures in
-    ties_written _ _ _ _ _ b.0 b.1 _ _ c.components.ensures.side c.finish-2.ensures _ c.components.ensures.leads (rw c.if-some_clash.false at (c.some_clash.ensures _ c.components.ensures.leads)) c.put_ties.ensures
+returns c =
+    let long = (c.if-some_clash.auto.tables ∙ c.prepare.auto.work) in
+    let ranks = c.components-ranks.result in
+    let leads : Leads ranks.n c.args.words.now ranks.tables = rw c.components-ranks.ensures.n c.components-ranks.ensures.leads in
+    let some : SomeClash c.args.n c.args.words.now c.some_clash.result = rw c.components-ranks.ensures.n at (c.some_clash.ensures _ leads) in
+    elim c.if-some_clash.branch [
+      | then-some_clash w ↦
+          let clash : SomeClash c.args.n c.args.words.now true = rw w.if-some_clash.true at some in
+          rw (w.area-is, w.answer-is)
+          (answers _ _ _ _ c.in_ok-used.ensures.used _ _ _ _ _ _ [] _ long c.finish.ensures c.in_ok-used.ensures.due
+          (clash_impossible _ _ clash.0 clash.1, refl)
+          refl)
+      | else-some_clash w ↦
+          let free : SomeClash c.args.n c.args.words.now false = rw w.if-some_clash.false at some in
+          let put = w.put_ties.ensures in
+          rw (w.area-is, w.answer-is)
+          (answers _ _ _ _ c.in_ok-used.ensures.used _ _ _ _ _ _ put.items _ long c.finish.ensures c.in_ok-used.ensures.due
+          (possible_of c.prepare.ensures.fresh.ready.sizes.codes free, rw c.components-ranks.ensures.n at (put.ties _ leads))
+          put.written)
+    ]

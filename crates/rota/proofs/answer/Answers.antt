@@ -20,6 +20,6 @@ told (Ok x) (Some given) old new bs out out' k room sized gives leaves wrote =
       put = subst (Appends old new) put wrote;
     }
 
-pub returns-in-Text : goal.returns-in-Text
-returns-in-Text g c =
-    told c.write_all.result _ _ _ _ _ _ c.in-Text.size _ (search rules) c.in_ok-count.ensures.first (c.in-Text.ensures.1) c.write_all.ensures.bytes
+pub returns-in-Some : goal.returns-in-Some
+returns-in-Some g c =
+    told c.write_all.result _ _ _ _ _ _ c.in-Some.size _ (search rules) c.in_ok-count.ensures.first (c.in-Some.ensures.1) c.write_all.ensures.bytes

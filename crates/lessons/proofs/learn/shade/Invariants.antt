@@ -1,9 +1,5 @@
-use Prim.Native.Nat.{◌≤◌, ◌-◌}
-use Rattle.lessons.specs.Learning.{Shaded}
+use Rattle.lessons.proofs.Lessons.{Shading}
 use Rattle.lessons.proofs.learn.shade.Given as goal
 
 abbrev pub invariant-loop-i : goal.invariant-loop-i
-invariant-loop-i l = (l.from ≤ l.i) × (l.i ≤ l.end) × Shaded l.n l.from l.i l.initial.work l.work
-
-abbrev pub decreases-loop-i : goal.decreases-loop-i
-decreases-loop-i l = l.end - l.i
+invariant-loop-i l = Shading l.initial.work l.fn.from l.work l.i

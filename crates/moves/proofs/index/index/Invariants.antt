@@ -3,6 +3,3 @@ use Rattle.moves.proofs.index.index.Given as goal
 
 abbrev pub invariant-loop-e : goal.invariant-loop-e
 invariant-loop-e l = Indexing l.n l.words l.initial.work l.work l.e
-
-abbrev pub decreases-loop-e : goal.decreases-loop-e
-decreases-loop-e l = l.e

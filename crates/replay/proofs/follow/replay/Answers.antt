@@ -1,61 +1,37 @@
 -- `replay` meets its contract. The invariant: the choices below i are replayed.
-use mathlib.Core.Path.{◌≡◌, ◌∙◌}
+use mathlib.Core.Path.{◌≡◌}
+use Prim.Native.Nat.{◌<◌}
 use native.Mathlib.Omega.{arith}
-use lib.ListN.{get_or, take}
+use lib.ListN.{get_or, take, length-take}
 use Rattle.meaning.specs.Codes.{late, code_of}
-use Rattle.replay.proofs.Replaying.{rota_fits, rota_at, replay_start, stored_around, stored_stands, replay_turn, replay_stop, replay_done}
-use Rattle.search.proofs.Searching.{ready_around}
-use Rattle.moves.proofs.Places.{tables}
 use Rattle.moves.proofs.Trails.{trail_few}
+use Rattle.replay.proofs.Replaying.{rota_fits}
+use Rattle.replay.proofs.Passing.{following_holds, following_turn, following_stop, following_done}
 use Rattle.replay.proofs.follow.replay.Goals as goal
 
-pub loop-i-init : goal.loop-i-init
-loop-i-init c = replay_start c.requires.by_index.0
+pub overflow_cast-tail : goal.overflow_cast-tail
+overflow_cast-tail c = omega (arith, c.tail.ensures.is, trail_few c.loop-i.invariant.follows.stands.holding.listed, c.choices-n.ensures.sound.ready.sizes.few)
 
-pub narrow-requires : goal.narrow-requires
-narrow-requires c = omega (arith, c.requires.ready.sizes.few)
+pub join-requires : goal.join-requires
+join-requires c = let within : c.loop-i.i < c.args.work.now.n = omega (arith, c.loop-i-test.true, c.choices-n.ensures.is, length-take c.choices-n.result c.args.rota.now) in
+    let late_code : c.of.result.0 ≡ late c.loop-i.i = omega (arith, c.of.ensures, within, c.choices-n.ensures.sound.ready.sizes.few) in
+    let value_code : c.of-in-loop-i.result.0 ≡ code_of c.loop-i.i (get_or (take c.args.work.now.n c.args.rota.now) c.loop-i.i 0) =
+    omega (arith, rw c.choices-n.ensures.is at c.of-in-loop-i.ensures, within, c.choices-n.ensures.sound.ready.sizes.few, c.requires.by_index.1.bits c.loop-i.i) in
+    record { holding = (following_holds within c.loop-i.invariant late_code c.tail.ensures.is c.set_spare.ensures, omega (arith, value_code, within, c.set_spare.ensures.same.choices, c.loop-i.invariant.same.choices)) }
 
-pub narrow-requires-in-loop-i : goal.narrow-requires-in-loop-i
-narrow-requires-in-loop-i c = omega (arith, c.requires.ready.sizes.few, trail_few c.loop-i.invariant.stands.holding.listed)
-
-pub set_spare-requires : goal.set_spare-requires
-set_spare-requires c = let late_code : c.of.result.0 ≡ late c.loop-i.i = omega (arith, c.of.ensures, c.narrow.ensures, c.requires.ready.sizes.few) in
-    (omega (arith, late_code), omega (arith, tables c.requires.ready.sizes, c.loop-i.invariant.around.long))
-
-pub bounds-rota-i : goal.bounds-rota-i
-bounds-rota-i c = omega (arith, rota_fits _ _ c.requires.by_index.1)
-
-pub join-joined-requires : goal.join-joined-requires
-join-joined-requires c = let late_code : c.of.result.0 ≡ late c.loop-i.i = omega (arith, c.of.ensures, c.narrow.ensures, c.requires.ready.sizes.few) in
-    let value_code : c.of-in-loop-i.result.0 ≡ code_of c.loop-i.i (get_or (take c.args.n c.args.rota.now) c.loop-i.i 0) = let e = rota_at _ _ c.requires.by_index.1 c.loop-i.i c.loop-i-test.true in
-    omega (arith, e, c.of-in-loop-i.ensures, c.narrow.ensures, c.requires.ready.sizes.few, c.requires.by_index.1.bits c.loop-i.i) in
-    record { ready = ready_around c.requires.ready (stored_around c.requires.ready c.loop-i-test.true c.loop-i.invariant late_code c.narrow-in-loop-i.ensures c.set_spare.ensures); holding = ((stored_stands c.requires.ready c.loop-i-test.true c.loop-i.invariant late_code c.narrow-in-loop-i.ensures c.set_spare.ensures).holding, omega (arith, value_code)) }
-
-pub overflow_add-result : goal.overflow_add-result
-overflow_add-result c = omega (arith, c.requires.ready.sizes.few)
-
-pub shape_of-work-in_default : goal.shape_of-work-in_default
-shape_of-work-in_default c = let late_code : c.of.result.0 ≡ late c.loop-i.i = omega (arith, c.of.ensures, c.narrow.ensures, c.requires.ready.sizes.few) in
-    c.join-joined.auto.work ∙ (stored_around c.requires.ready c.loop-i-test.true c.loop-i.invariant late_code c.narrow-in-loop-i.ensures c.set_spare.ensures).long
-
-pub returns-in_default : goal.returns-in_default
-returns-in_default c = let late_code : c.of.result.0 ≡ late c.loop-i.i = omega (arith, c.of.ensures, c.narrow.ensures, c.requires.ready.sizes.few) in
-    let value_code : c.of-in-loop-i.result.0 ≡ code_of c.loop-i.i (get_or (take c.args.n c.args.rota.now) c.loop-i.i 0) = let e = rota_at _ _ c.requires.by_index.1 c.loop-i.i c.loop-i-test.true in
-    omega (arith, e, c.of-in-loop-i.ensures, c.narrow.ensures, c.requires.ready.sizes.few, c.requires.by_index.1.bits c.loop-i.i) in
-    let u = rw c.in_default.is at c.join-joined.ensures in
-    replay_stop c.requires.ready c.loop-i-test.true c.loop-i.invariant late_code c.narrow-in-loop-i.ensures c.set_spare.ensures c.requires.by_index.1 value_code u.0 u.1
-
-pub overflow_add-i : goal.overflow_add-i
-overflow_add-i c = omega (arith, c.requires.ready.sizes.few)
+pub returns-then-not-join : goal.returns-then-not-join
+returns-then-not-join c = let within : c.loop-i.i < c.args.work.now.n = omega (arith, c.loop-i-test.true, c.choices-n.ensures.is, length-take c.choices-n.result c.args.rota.now) in
+    let late_code : c.of.result.0 ≡ late c.loop-i.i = omega (arith, c.of.ensures, within, c.choices-n.ensures.sound.ready.sizes.few) in
+    let value_code : c.of-in-loop-i.result.0 ≡ code_of c.loop-i.i (get_or (take c.args.work.now.n c.args.rota.now) c.loop-i.i 0) =
+    omega (arith, rw c.choices-n.ensures.is at c.of-in-loop-i.ensures, within, c.choices-n.ensures.sound.ready.sizes.few, c.requires.by_index.1.bits c.loop-i.i) in
+    following_stop within c.loop-i.invariant late_code c.tail.ensures.is c.set_spare.ensures c.requires.by_index.1 value_code (rw c.if-not-join.true at c.join.ensures)
 
 pub loop-i-preserved : goal.loop-i-preserved
-loop-i-preserved c = let late_code : c.of.result.0 ≡ late c.loop-i.i = omega (arith, c.of.ensures, c.narrow.ensures, c.requires.ready.sizes.few) in
-    let value_code : c.of-in-loop-i.result.0 ≡ code_of c.loop-i.i (get_or (take c.args.n c.args.rota.now) c.loop-i.i 0) = let e = rota_at _ _ c.requires.by_index.1 c.loop-i.i c.loop-i-test.true in
-    omega (arith, e, c.of-in-loop-i.ensures, c.narrow.ensures, c.requires.ready.sizes.few, c.requires.by_index.1.bits c.loop-i.i) in
-    replay_turn c.requires.ready c.loop-i-test.true c.loop-i.invariant late_code c.narrow-in-loop-i.ensures c.set_spare.ensures c.requires.by_index.1 value_code (rw c.in-Kept.is at c.join-joined.ensures)
-
-pub shape_of-work : goal.shape_of-work
-shape_of-work c = c.loop-i.invariant.around.long
+loop-i-preserved c = let within : c.loop-i.i < c.args.work.now.n = omega (arith, c.loop-i-test.true, c.choices-n.ensures.is, length-take c.choices-n.result c.args.rota.now) in
+    let late_code : c.of.result.0 ≡ late c.loop-i.i = omega (arith, c.of.ensures, within, c.choices-n.ensures.sound.ready.sizes.few) in
+    let value_code : c.of-in-loop-i.result.0 ≡ code_of c.loop-i.i (get_or (take c.args.work.now.n c.args.rota.now) c.loop-i.i 0) =
+    omega (arith, rw c.choices-n.ensures.is at c.of-in-loop-i.ensures, within, c.choices-n.ensures.sound.ready.sizes.few, c.requires.by_index.1.bits c.loop-i.i) in
+    following_turn within c.loop-i.invariant late_code c.tail.ensures.is c.set_spare.ensures c.requires.by_index.1 value_code (rw c.if-not-join.false at c.join.ensures)
 
 pub returns : goal.returns
-returns c = replay_done (omega arith) c.loop-i.invariant
+returns c = rw c.choices-n.ensures.is (following_done (omega (arith, c.loop-i-test.false, c.choices-n.ensures.is, length-take c.choices-n.result c.args.rota.now, rota_fits _ _ c.requires.by_index.1)) c.loop-i.invariant)

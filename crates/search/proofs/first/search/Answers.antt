@@ -1,31 +1,15 @@
--- `search` meets its contract. The invariant: the choices from `start` to v are settled.
-use mathlib.Core.Path.{◌≡◌, ◌∙◌}
+-- `search` meets its contract. The invariant: the choices from `from` to v are settled.
 use native.Mathlib.Omega.{arith}
-use Rattle.search.proofs.Searching.{settles_none, settles_on, halts}
+use Rattle.std.proofs.lemmas.Result.{err_from_is_err_and}
+use Rattle.search.proofs.Settling.{going_turn, going_stop, going_done}
 use Rattle.search.proofs.first.search.Goals as goal
 
-pub loop-v-init : goal.loop-v-init
-loop-v-init c = (omega (arith, c.wide-start.ensures, c.requires.from_le_n), settles_none c.requires.state)
-
-pub narrow-requires : goal.narrow-requires
-narrow-requires c = omega (arith, c.requires.state.ready.sizes.few)
-
-pub settle-settled-requires : goal.settle-settled-requires
-settle-settled-requires c = record { state = c.loop-v.invariant.1.state; v_lt_n = omega (arith, c.narrow.ensures) }
-
-pub shape_of-work-in_default : goal.shape_of-work-in_default
-shape_of-work-in_default c = c.settle-settled.auto.work ∙ c.loop-v.invariant.1.around.long
-
-pub returns-in_default : goal.returns-in_default
-returns-in_default c = let k = rw (c.in_default.is, c.narrow.ensures) at c.settle-settled.ensures in
-    rw (c.narrow.ensures, ← c.wide-start.ensures) (halts c.loop-v.invariant.1 c.loop-v-test.true k.0 k.1 k.2)
+pub returns-in_err-settle : goal.returns-in_err-settle
+returns-in_err-settle c = let p = err_from_is_err_and c.from_residual.result c.from_residual.ensures.1 in
+    rw (p.1, p.2) (going_stop c.loop-v.invariant (omega (arith, c.choices-n.ensures.is)) c.in_err-settle.ensures)
 
 pub loop-v-preserved : goal.loop-v-preserved
-loop-v-preserved c = (omega arith, settles_on c.loop-v.invariant.1 (rw (c.in-Kept.is, c.narrow.ensures) at c.settle-settled.ensures))
-
-pub shape_of-work : goal.shape_of-work
-shape_of-work c = c.loop-v.invariant.1.around.long
+loop-v-preserved c = going_turn c.loop-v.invariant c.in_ok-settle.ensures
 
 pub returns : goal.returns
-returns c = let e : c.loop-v.v ≡ c.args.n = omega arith in
-    rw (← c.wide-start.ensures) (rw e at c.loop-v.invariant.1)
+returns c = going_done c.loop-v.invariant (omega (arith, c.choices-n.ensures.is, c.requires.from_le_n, c.loop-v-test.false, c.loop-v.auto.v-end))

@@ -1,50 +1,33 @@
 -- `try_both` meets its contract: early is kept, or it fails and late is tried.
-use mathlib.Core.Path.{◌≡◌, ◌∙◌}
-use Prim.Native.Nat.{◌*◌, ◌<◌}
+use mathlib.Core.Path.{◌≡◌}
 use native.Mathlib.Omega.{arith}
-use Rattle.meaning.specs.Codes.{late, early}
+use Rattle.std.proofs.lemmas.Result.{err_from_is_err_and}
+use Rattle.meaning.specs.Codes.{early}
 use Rattle.meaning.proofs.CodeLaws.{opposite_early}
-use Rattle.moves.specs.Trials.{GaveUp}
-use Rattle.search.proofs.Searching.{around_trans, apart_around, state_gave_up, settles_after, settles_taught, settles_by_early}
+use Rattle.search.proofs.Settling.{failed_stands, failed_out, failed_leads, settled_early, settled_neither, settled_over}
 use Rattle.search.proofs.settle.try_both.Goals as goal
 
-pub attempt-tried-requires : goal.attempt-tried-requires
-attempt-tried-requires c = let is_early : c.of-first.result.0 ≡ early c.args.v.0 = omega (arith, c.of-first.ensures, c.requires.state.ready.sizes.few, c.requires.v_lt_n.0) in
-    let e = is_early in
-    record { ready = c.requires.state.ready; holding = c.requires.state.holding; c_bound = (omega (arith, e, c.requires.v_lt_n.0), rw e c.requires.v_lt_n.2, rw (e, opposite_early c.args.v.0) c.requires.v_lt_n.1) }
-
-pub turn_over-settled-requires : goal.turn_over-settled-requires
-turn_over-settled-requires c = let is_early : c.of-first.result.0 ≡ early c.args.v.0 = omega (arith, c.of-first.ensures, c.requires.state.ready.sizes.few, c.requires.v_lt_n.0) in
-    let failed : GaveUp c.args.n c.args.words.now (early c.args.v.0) c.args.tail c.args.work.now c.attempt-tried.new.work c.in-Failed.b.0 = let g = rw (c.in-Failed.is, is_early) at c.attempt-tried.ensures in
-    g.0 in
-    let g = failed in
-    let l : late c.args.v.0 < 2 * c.args.n = omega (arith, c.requires.v_lt_n.0) in
-    let e : early c.args.v.0 < 2 * c.args.n = omega (arith, c.requires.v_lt_n.0) in
-    record { state = state_gave_up c.requires.state g; v_lt_n = (c.requires.v_lt_n.0, g.same _ l ∙ c.requires.v_lt_n.1, g.same _ e ∙ c.requires.v_lt_n.2); reach = rw (opposite_early c.args.v.0) at g.turns }
+pub attempt-requires-clause-c_bound : goal.attempt-requires-clause-c_bound
+attempt-requires-clause-c_bound c = let is_early : c.of-first.result.0 ≡ early c.args.v.0 = omega (arith, c.of-first.ensures, c.requires.state.ready.sizes.few, c.requires.v_lt_n.0) in
+    rw is_early (omega (arith, c.requires.v_lt_n.0), c.requires.v_lt_n.2, rw (opposite_early c.args.v.0) c.requires.v_lt_n.1)
 
 pub returns-in_default : goal.returns-in_default
 returns-in_default c = let is_early : c.of-first.result.0 ≡ early c.args.v.0 = omega (arith, c.of-first.ensures, c.requires.state.ready.sizes.few, c.requires.v_lt_n.0) in
-    let failed : GaveUp c.args.n c.args.words.now (early c.args.v.0) c.args.tail c.args.work.now c.attempt-tried.new.work c.in-Failed.b.0 = let g = rw (c.in-Failed.is, is_early) at c.attempt-tried.ensures in
-    g.0 in
-    let g = failed in
-    let s = rw c.in_default.is at c.turn_over-settled.ensures in
-    (around_trans (apart_around g.apart) s.0, s.1, s.2)
+    settled_early c.requires.state c.requires.v_lt_n (rw (c.in_default.is, is_early) at c.attempt.ensures)
 
-pub teach-requires : goal.teach-requires
-teach-requires c = let is_early : c.of-first.result.0 ≡ early c.args.v.0 = omega (arith, c.of-first.ensures, c.requires.state.ready.sizes.few, c.requires.v_lt_n.0) in
-    let failed : GaveUp c.args.n c.args.words.now (early c.args.v.0) c.args.tail c.args.work.now c.attempt-tried.new.work c.in-Failed.b.0 = let g = rw (c.in-Failed.is, is_early) at c.attempt-tried.ensures in
-    g.0 in
-    let s = rw c.in-Kept-settled.is at c.turn_over-settled.ensures in
-    let g = failed in
-    record { state = s.state; c_bound = (omega (arith, is_early, c.requires.v_lt_n.0), rw is_early g.turns, g.is_code) }
+pub turn_over-requires : goal.turn_over-requires
+turn_over-requires c = let is_early : c.of-first.result.0 ≡ early c.args.v.0 = omega (arith, c.of-first.ensures, c.requires.state.ready.sizes.few, c.requires.v_lt_n.0) in
+    record {
+      state = failed_stands c.requires.state c.in-Err.ensures;
+      v_lt_n = failed_out c.requires.v_lt_n (rw is_early at c.in-Err.ensures);
+      reach = failed_leads c.requires.v_lt_n (rw is_early at c.in-Err.ensures);
+    }
 
-pub returns-in-Kept : goal.returns-in-Kept
-returns-in-Kept c = let is_early : c.of-first.result.0 ≡ early c.args.v.0 = omega (arith, c.of-first.ensures, c.requires.state.ready.sizes.few, c.requires.v_lt_n.0) in
-    settles_by_early _ _ _ _ _ c.requires.state _ _ c.requires.v_lt_n.1 c.requires.v_lt_n.2 (rw (c.in-Kept.is, is_early) at c.attempt-tried.ensures)
+pub returns-in_err-turn_over : goal.returns-in_err-turn_over
+returns-in_err-turn_over c = let is_early : c.of-first.result.0 ≡ early c.args.v.0 = omega (arith, c.of-first.ensures, c.requires.state.ready.sizes.few, c.requires.v_lt_n.0) in
+    let p = err_from_is_err_and c.from_residual.result c.from_residual.ensures.1 in
+    rw (p.1, p.2) (settled_neither c.requires.v_lt_n (rw is_early at c.in-Err.ensures) c.in_err-turn_over.ensures)
 
-pub returns-in-Kept-settled : goal.returns-in-Kept-settled
-returns-in-Kept-settled c = let is_early : c.of-first.result.0 ≡ early c.args.v.0 = omega (arith, c.of-first.ensures, c.requires.state.ready.sizes.few, c.requires.v_lt_n.0) in
-    let failed : GaveUp c.args.n c.args.words.now (early c.args.v.0) c.args.tail c.args.work.now c.attempt-tried.new.work c.in-Failed.b.0 = let g = rw (c.in-Failed.is, is_early) at c.attempt-tried.ensures in
-    g.0 in
-    let g = failed in
-    settles_taught (settles_after (apart_around g.apart) g.same (rw c.in-Kept-settled.is at c.turn_over-settled.ensures)) c.teach.ensures
+pub returns : goal.returns
+returns c = let is_early : c.of-first.result.0 ≡ early c.args.v.0 = omega (arith, c.of-first.ensures, c.requires.state.ready.sizes.few, c.requires.v_lt_n.0) in
+    settled_over c.requires.v_lt_n (rw is_early at c.in-Err.ensures) c.in_ok-turn_over.ensures c.teach.ensures

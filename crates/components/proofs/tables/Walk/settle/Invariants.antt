@@ -1,0 +1,13 @@
+use Prim.Native.Nat.{◌≤◌}
+use mathlib.Core.Path.{◌≡◌}
+use Rattle.components.specs.Walk.{Settled, codes_of, retabled}
+use Rattle.components.proofs.tables.Walk.settle.Given as goal
+
+abbrev pub invariant-loop-p : goal.invariant-loop-p
+invariant-loop-p l =
+    record {
+      from : l.from ≤ l.p;
+      to : l.p ≤ l.initial.self.top;
+      retabled : l.self ≡ retabled l.initial.self l.self.tables;
+      settled : Settled l.initial.self.n (codes_of l.side l.initial.self.n l.initial.self.tables) l.from l.p l.rank l.initial.self.tables l.self.tables;
+    }

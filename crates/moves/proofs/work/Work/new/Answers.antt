@@ -1,0 +1,6 @@
+-- `new` meets its contract.
+use Rattle.moves.proofs.Moving.{begun}
+use Rattle.moves.proofs.work.Work.new.Goals as goal
+
+pub resume-requires : goal.resume-requires
+resume-requires c = (begun _ _ _ c.prepare.ensures.fresh).sound

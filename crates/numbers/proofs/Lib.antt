@@ -1,2 +1,0 @@
--- The law that carries the numbers.
-pub mod Storing

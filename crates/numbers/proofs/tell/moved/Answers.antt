@@ -1,5 +1,0 @@
--- Next's answer is told.
-use Rattle.numbers.proofs.tell.moved.Goals as goal
-
-pub returns-in-Refused : goal.returns-in-Refused
-returns-in-Refused c = rw c.in-Refused.is c.refused.ensures
