@@ -1,4 +1,4 @@
-// The walk's own names for the tables of the work area. Ranks stand in the marks, and the stack in the trail. The path is the
+// The walk's own names for the tables of the work area, in another use than that of the moves' `Work`, which it would leave without lists. Ranks stand in the marks, and the stack in the trail. The path is the
 // spare table: each of its places holds a place of the stack. A code's cursor is the head of the list of its opposite, whose
 // ends lead on from the code: the walk uses the heads up, so that it needs no cursors besides. Each store has an exact contract:
 // what it means for the walk is said over the ranks, the stack, the path and the cursors as functions, and never sees a store.

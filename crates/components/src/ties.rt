@@ -1,5 +1,5 @@
 // What is read off once every code is settled: two codes are tied exactly if they have one mark. The contracts hold for any list
-// whose leads the marks tell, so that the words need not be handed over again.
+// whose leads the marks tell, so that the words need not be handed over again. It is no view of the moves: n has to be within its limit.
 ghost use Rattle.std.specs.Prelude.{◌≡◌, List, ℕ, ◌*◌, ◌≤◌, ◌<◌, length};
 ghost use Rattle.meaning.specs.Sizes.{max_choices, ties_need};
 ghost use Rattle.moves.specs.Layout.{Tables, mark};

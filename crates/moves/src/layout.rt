@@ -3,7 +3,7 @@
 // table is added or moved here and in specs/Layout alone. The functions take n and the area, and are no methods: `Work` and the walk
 // of `components` both stand on them, and one more struct below these two would say nothing. And the tables are one slice, and no five: the
 // laws speak of loads after stores in one list, and five would put five lengths into each invariant. A number is cast where it is stored:
-// the check has it proved that nothing is lost.
+// the check has it proved that nothing is lost. And lists are linked by index: there is no heap, and C lends one area.
 ghost use Rattle.std.specs.Prelude.{◌≡◌, ◌*◌, ◌<◌, ◌≤◌, length, set};
 ghost use Rattle.meaning.specs.Sizes.{max_choices};
 ghost use Rattle.moves.specs.Layout.{Tables, head_at, mark_at, trail_at, spare_at, next_at, head, mark, trail, spare, next};

@@ -11,7 +11,7 @@
 //   spread(source), undo_to(end)                `Spreads`, `Undoes`
 //   attempt(c) -> Result<(), Failure>           `Tries`
 // `spread::touch` and `spread::undo`, on which these stand, ask for the tables and the trail alone.
-// Each such record has `same : Same before after` (the same n and rules, and a sound area) beside what the move does.
+// Each such record but `Begun` has `same : Same before after` (the same n and rules, and a sound area) beside what the move does.
 #![tactic(auto)]
 
 pub mod attempt; // trials that are kept, or undone

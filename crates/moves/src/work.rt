@@ -34,6 +34,7 @@ impl<'a> Model for Work<'a> {
 }
 
 impl<'a> Work<'a> {
+    // These two make the value: so they take its parts.
     pub fn new(n: usize, rules: &'a [u16], words: &'a mut [u16]) -> Work<'a>
         requires { Sizes n rules.now words.old }
         ensures { Begun n rules.now result }

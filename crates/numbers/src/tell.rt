@@ -108,7 +108,7 @@ impl Answer for Sizes {
     }
 }
 
-// The host gets the number alone. Two functions and no trait: C has a call for each.
+// The host gets the number alone. Two functions, and no trait: with an impl for each answer it would be longer than the two.
 pub fn host_decided(answer: Result<Decided, Refusal>) -> u32
     ensures { result ≡ number_or host_decided answer }
 {
