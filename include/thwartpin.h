@@ -1,5 +1,6 @@
 /*
  * Thwartpin: what a list of two-way rules over early/late choices allows. Link with libthwartpin.a, which needs nothing but the C library's memset.
+ * It is made for hosts on x86-64 under Linux, with the instructions of x86-64-v2.
  *
  * Three choices and three rules, as a book, and every rota that they allow, in dictionary order:
  *
@@ -19,7 +20,8 @@
  *         return answer == THWARTPIN_ENDED ? 0 : 1;
  *     }
  *
- * It prints 011, 101 and 111.
+ * It prints 011, 101 and 111. On any good book, with a byte of rota for each choice, the loop goes through every
+ * allowed rota, each once, and ends: that is proved.
  *
  *
  * Choices, codes, rules, rotas

@@ -10,9 +10,9 @@ use lib.Seq.{get_or-drop}
 use Rattle.meaning.specs.Refusals.{none, check, first_of}
 use Rattle.book.specs.Number.{may_follow, number_checks, number_value, number_size, after_number}
 use Rattle.book.specs.Checks.{numbers_in, limit_checks, codes_checks}
-use Rattle.book.specs.Saved.{number_bytes, numbers_bytes}
+use Rattle.book.specs.Saved.{number_bytes, numbers_bytes, Bytes}
 use Rattle.book.proofs.Refusing.{behind, both_none, check_none}
-use Rattle.book.proofs.NumberLaws.{too_large, reads_back, Bytes, is_written, limit_none}
+use Rattle.book.proofs.NumberLaws.{too_large, reads_back, is_written, limit_none}
 
 -- a number of a good form below its limit is not refused
 pub below_none : (limit number at : ℕ) (bs : List ℕ) → first_of (number_checks at bs) ≡ none → number_value bs < limit →

@@ -9,9 +9,9 @@ use lib.Dec.{ltb}
 use lib.ListN.{length, set, length-drop, drop_of_length-le}
 use lib.Seq.{drop-drop}
 use Rattle.meaning.specs.declared.refusal.Refusal.{Refusal}
-use Rattle.meaning.specs.Sizes.{over}
+use Rattle.meaning.specs.Sizes.{over, over_at}
 use Rattle.meaning.specs.Refusals.{number_of, place_of, none, check, first_of}
-use Rattle.meaning.proofs.AreaLaws.{over_at, over_at_none, over_at_one, over_at_append}
+use Rattle.meaning.proofs.AreaLaws.{over_at_none, over_at_one, over_at_append}
 use Rattle.meaning.proofs.RefusalLaws.{not_refused, due_ahead}
 use Rattle.book.specs.declared.number.Reader.{Reader}
 use Rattle.book.specs.Number.{may_follow, goes_on, form_checks, number_size, after_number}

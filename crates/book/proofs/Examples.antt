@@ -1,7 +1,7 @@
 -- What the listed books do not compute: the bytes of numbers and of a list, and which refusal comes first where two apply.
 use mathlib.Core.Path.{◌≡◌, refl}
 use mathlib.Core.List.{[], ◌∷◌}
-use Prim.Native.Nat.{◌<◌}
+use Prim.Native.Nat.{zero, suc, ◌<◌}
 use native.Mathlib.Omega.{arith}
 use native.Mathlib.Decide.{dec_lt}
 use lib.ListN.{get_or}
@@ -9,7 +9,7 @@ use Rattle.meaning.specs.Refusals.{refused}
 use Rattle.meaning.proofs.Tests.{shown, below?}
 use Rattle.book.specs.Number.{number_value, number_size}
 use Rattle.book.specs.Checks.{book_due}
-use Rattle.book.specs.Saved.{number_bytes, book_of, Savable}
+use Rattle.book.specs.Saved.{number_bytes, book_of, Savable, Bytes, AcceptedBook}
 
 -- number_bytes: the first and the last number of each length; number_value and number_size of the last
 pub number_bytes_lem : (number_bytes 0 ≡ 0 ∷ []) × (number_bytes 127 ≡ 127 ∷ []) × (number_bytes 128 ≡ 0x80 ∷ 0x01 ∷ []) × (number_bytes 16383 ≡ 0xff ∷ 0x7f ∷ [])
@@ -33,6 +33,18 @@ savable_j =
       codes = shown (below? {P = λ i. get_or (0 ∷ 2 ∷ 3 ∷ 4 ∷ 1 ∷ 4 ∷ []) i 0 < 6} 6 (λ i. dec_lt (get_or (0 ∷ 2 ∷ 3 ∷ 4 ∷ 1 ∷ 4 ∷ []) i 0) 6)) tt;
       fits = omega arith;
     }
+
+-- AcceptedBook: case J's book into six words. Bytes: two of them; 256 is none
+pub accepted_book_j : AcceptedBook (3 ∷ 3 ∷ 0 ∷ 2 ∷ 3 ∷ 4 ∷ 1 ∷ 4 ∷ []) 6
+accepted_book_j = record { n = 3; ws = 0 ∷ 2 ∷ 3 ∷ 4 ∷ 1 ∷ 4 ∷ []; list = savable_j; is = refl }
+
+pub bytes_two : Bytes (0 ∷ 255 ∷ [])
+bytes_two zero = omega arith
+bytes_two (suc zero) = omega arith
+bytes_two (suc (suc i)) = omega arith
+
+pub no_bytes : Bytes (256 ∷ []) → ⊥
+no_bytes h = omega (arith, h 0)
 
 -- book_due: 1 before m's form, 3 before 6, 6 before the codes' form, a code's 4 before the form of the next, 4 before 10
 pub book_order : (book_due (0x81 ∷ 0x02 ∷ 0x80 ∷ []) 0 ≡ refused 1 0)

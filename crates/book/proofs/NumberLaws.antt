@@ -7,13 +7,13 @@ use Prim.Native.Nat.{ℕ, zero, suc, ◌+◌, ◌-◌, ◌*◌, ◌/◌, ◌%◌
 use native.Mathlib.Omega.{arith}
 use lib.Dec.{leb, ltb}
 use borrow.Author.Tests.{leb-true, leb-false, ltb-false, lt-ltb, le-ltb, le-leb, lt-leb}
-use lib.ListN.{length, get_or, drop}
+use lib.ListN.{length, drop}
 use Rattle.meaning.specs.Refusals.{none, check, first_of}
 use Rattle.meaning.proofs.General.{below_or_from}
 use Rattle.meaning.proofs.RefusalLaws.{not_refused}
 use Rattle.book.specs.Number.{goes_on, form_checks, value_up_to, size_up_to, number_checks, number_value}
 use Rattle.book.specs.Checks.{limit_checks}
-use Rattle.book.specs.Saved.{bytes_up_to}
+use Rattle.book.specs.Saved.{bytes_up_to, Bytes}
 use Rattle.book.proofs.Refusing.{both_none, check_none}
 
 -- what holds of both arms of a choice holds of it
@@ -56,10 +56,6 @@ reads_back (suc k) least x others l h = ⊎_elim short (λ g. long g (reads_back
         let e = le-ltb x 128 g in
         let f = le-leb 128 (x % 128 + 128) (omega arith) in
         record { good = λ at. rw (e, f, r.good); value = rw (e, f) (omega (arith, r.value)); left = rw (e, f) r.left }
-
--- bytes are below 256
-abbrev pub Bytes : List ℕ → Type 0
-Bytes bs = (i : ℕ) → get_or bs i 0 < 256
 
 -- bytes whose form is good are those of the value read, and then those left
 pub record IsWritten (k least : ℕ) (bs : List ℕ) : Type 0 where

@@ -1,21 +1,22 @@
 -- Reading and writing agree: the book of a list is read back, and what is accepted is the book of the list that is given. Which list that is stands in `GivenLists`.
 use Rattle.std.specs.Prelude.{Ok}
-use mathlib.Core.Path.{◌≡◌, sym, ap, ap₂, ◌∙◌}
+use mathlib.Core.Path.{◌≡◌, refl, sym, ap, ap₂, ◌∙◌}
 use mathlib.Core.Bool.{false}
+use mathlib.Core.Logic.{◌↔◌}
 use mathlib.Core.List.{List, ◌++◌}
 use Prim.Native.Nat.{ℕ, ◌+◌, ◌*◌}
 use native.Mathlib.Omega.{arith}
 use lib.Dec.{ltb, lit≤}
 use borrow.Author.Tests.{le-ltb}
 use lib.ListN.{length}
+use Rattle.meaning.specs.Refusals.{none}
 use Rattle.meaning.specs.Rules.{rules}
 use Rattle.meaning.specs.Sizes.{max_choices, max_rules, over}
 use Rattle.book.specs.Number.{number_size, after_number}
 use Rattle.book.specs.Checks.{choices_in, rules_in, code_bytes, codes_place, codes_in, choices_checks, rules_checks, book_due}
 use Rattle.book.specs.Promise.{Reads}
-use Rattle.book.specs.Saved.{number_bytes, numbers_bytes, book_of, Savable}
+use Rattle.book.specs.Saved.{number_bytes, numbers_bytes, book_of, Savable, Bytes, AcceptedBook}
 use Rattle.book.proofs.Refusing.{behind}
-use Rattle.book.proofs.NumberLaws.{Bytes}
 use Rattle.book.proofs.BookLaws.{number_back, codes_back, bytes_after, number_written, codes_written}
 use Rattle.book.proofs.GivenLists.{passed, read_is_list}
 
@@ -53,3 +54,14 @@ read_is_book bs words n m words' h r =
     (number_written (max_rules + 1) 3 (number_size bs) (after_number bs) (bytes_after bs h) p.second
     ∙ ap₂ (λ (k : ℕ) (l : List ℕ). number_bytes k ++ l) count
     (codes_written (2 * rules_in bs) (2 * choices_in bs) (codes_place bs) (code_bytes bs) (bytes_after (after_number bs) (bytes_after bs h)) p.fourth)))
+
+-- a book is accepted exactly if no refusal is due of it
+pub accepted_book : (bs words : List ℕ) → Bytes bs → AcceptedBook bs (length words) ↔ (book_due bs (length words) ≡ none)
+accepted_book bs words h = (
+  (λ a. rw (sym a.is) at (sym (book_is_read a.n a.ws words a.list).refuses)),
+  (λ e.
+      let n = choices_in bs in
+      let m = rules_in bs in
+      let r : Reads bs words (Ok (record { n = n; m = m })) (over (codes_in bs) words) = record { refuses = sym e; says = (refl, refl, refl) } in
+      record { n = n; ws = codes_in bs; list = (read_is_list bs words n m (over (codes_in bs) words) r).savable; is = read_is_book bs words n m (over (codes_in bs) words) h r }),
+)

@@ -28,3 +28,14 @@ pub record Savable (n : ℕ) (ws : List ℕ) (room : ℕ) : Type 0 where
   pub few : rules ws ≤ max_rules
   pub codes : (i : ℕ) → i < length ws → get_or ws i 0 < 2 * n
   pub fits : length ws ≤ room
+
+-- bytes are below 256
+abbrev pub Bytes : List ℕ → Type 0
+Bytes bs = (i : ℕ) → get_or bs i 0 < 256
+
+-- a book that is accepted into an area of `room` words: the book of a list that the area has room for
+pub record AcceptedBook (bs : List ℕ) (room : ℕ) : Type 0 where
+  pub n : ℕ
+  pub ws : List ℕ
+  pub list : Savable n ws room
+  pub is : bs ≡ book_of n ws

@@ -3,3 +3,4 @@ pub mod Distances
 pub mod Picking
 pub mod Tracing
 pub mod Both
+pub mod Once

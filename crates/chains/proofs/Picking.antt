@@ -11,6 +11,7 @@ use Rattle.std.specs.Prelude.{Option, Some, None, unwrap_or}
 use Rattle.chains.specs.Traces.{across, LowestTo}
 use Rattle.meaning.specs.Chains.{Step}
 use Rattle.meaning.specs.Codes.{opposite}
+use Rattle.meaning.specs.Rules.{other_end}
 use Rattle.meaning.specs.declared.codes.RuleNo.{RuleNo}
 use Rattle.moves.specs.Layout.{head, mark, next}
 use Rattle.moves.specs.Lists.{Cursor, Passed, Ready}
@@ -74,7 +75,7 @@ module _ {n : ℕ} {ws W : List ℕ} (rd : Ready n ws W) where
         lowest : LowestTo n ws W a d (k / 2)
         lowest =
             record {
-              next = get_or ws (opposite k) 0;
+              next = get_or ws (other_end k) 0;
               step = end_step rd.sizes (pick_end r) (rw at_end at (r.cur.at (omega arith)).1) refl;
               near = fits;
               lowest = λ j b l st m.

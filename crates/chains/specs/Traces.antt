@@ -2,6 +2,7 @@
 use Rattle.std.specs.Prelude.{◌≡◌, List, ℕ, ◌+◌, ◌*◌, ◌≤◌, ◌<◌, length, get_or}
 use Rattle.meaning.specs.Chains.{Step, Chain, Shortest}
 use Rattle.meaning.specs.Codes.{opposite}
+use Rattle.meaning.specs.Rules.{other_end}
 use Rattle.moves.specs.Layout.{mark, Apart}
 use Rattle.meaning.specs.Sizes.{over}
 use Rattle.moves.specs.Area.{Area, Same}
@@ -18,7 +19,7 @@ pub record Away (n : ℕ) (ws : List ℕ) (c : ℕ) (W : List ℕ) : Type 0 wher
 
 -- the mark of the opposite of the code to which the step by the end e leads
 abbrev pub across : ℕ → List ℕ → List ℕ → ℕ → ℕ
-across n ws W e = mark n W (opposite (get_or ws (opposite e) 0))
+across n ws W e = mark n W (opposite (get_or ws (other_end e) 0))
 
 -- some rule leads from a to a code whose opposite has the mark d
 abbrev pub LeadsTo : Area → ℕ → ℕ → Type 0

@@ -1,2 +1,4 @@
 -- The laws that carry the checks.
 pub mod NextRefusing
+pub mod Finding
+pub mod Once

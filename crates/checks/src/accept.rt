@@ -1,15 +1,16 @@
 // Refusals come before anything is written, in the order that the promises name. Codes are checked in one pass for the highest, which is
 // cheap, and only a list that is refused is searched for the place.
-ghost use Rattle.std.specs.Prelude.{◌≡◌, IfOk, ℕ, ◌≤◌, ◌<◌, length, get_or, take};
+ghost use Rattle.std.specs.Prelude.{◌≡◌, IfOk, ◌≤◌, ◌<◌, length, take};
+ghost use Rattle.checks.specs.Highest.{Highest};
 ghost use Rattle.meaning.specs.Refusals.{due_of, first_over, list_due, next_due};
 ghost use Rattle.meaning.specs.Rules.{rules};
 ghost use Rattle.meaning.specs.Sizes.{max_choices, max_rules, chains_need, work_needs};
 
 use meaning::{Choice, Refusal, RuleNo};
 
-// A number that no word is over.
+// The highest word, or 0 where there is none.
 fn highest(words: &[u16]) -> u16
-    ensures { (i : ℕ) → i < length words.now → get_or words.now i 0 ≤ result }
+    ensures { Highest words.now result }
 {
     let mut top = 0;
     for word in words {
@@ -64,9 +65,10 @@ pub fn work_needs(n: usize, words: &[u16]) -> usize
     8 * n + 6 * (words.len() / 2) + 16
 }
 
-// The words that two chains need. Where there are too many choices for a list, that is refused before the need is looked at.
+// The words that two chains need. Where there are too many choices for a list, that is refused before the need is looked at, and 0 is answered.
 pub fn chains_need(n: usize) -> usize
-    ensures { n ≤ max_choices → result ≡ chains_need n }
+    ensures need { n ≤ max_choices → result ≡ chains_need n }
+    ensures past { max_choices < n → result ≡ 0 }
 {
     if Choice::LIMIT < n { 0 } else { 4 * n }
 }

@@ -7,3 +7,4 @@ pub mod Looking
 pub mod Turning
 pub mod Sweeping
 pub mod Answers
+pub mod Once

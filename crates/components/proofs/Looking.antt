@@ -14,6 +14,7 @@ use Rattle.components.specs.declared.settle.Side.{Side as Facing}
 use Rattle.components.specs.declared.settle.Side.TheVariants.{Own, Opposite}
 use Rattle.meaning.specs.Chains.{Step}
 use Rattle.meaning.specs.Codes.{opposite}
+use Rattle.meaning.specs.Rules.{other_end}
 use Rattle.moves.specs.Layout.{mark_at, mark, trail, next, Tables, Sizes}
 use Rattle.moves.specs.Lists.{Nexts, Cursor, Passed}
 use Rattle.components.proofs.Storing.{beyond_refl, beyond_trans, beyond_mark}
@@ -31,7 +32,7 @@ pub record Scanning (n : ℕ) (ws W : List ℕ) (a low e : ℕ) : Type 0 where
   pub less : low ≤ mark n W a
   pub why : (low ≡ mark n W a) ⊎ ((z : ℕ) × ((k : ℕ) × Step ws a k z) × (mark n W z ≡ low))
   pub cur : Cursor ws a e
-  pub seen : (i : ℕ) → i < length ws → get_or ws i 0 ≡ opposite a → Passed e i → Old n W a i ⊎ Ranked n W low (get_or ws (opposite i) 0)
+  pub seen : (i : ℕ) → i < length ws → get_or ws i 0 ≡ opposite a → Passed e i → Old n W a i ⊎ Ranked n W low (get_or ws (other_end i) 0)
 
 -- it holds before the first end
 pub scan_start : {n : ℕ} {ws W : List ℕ} {a low e : ℕ} → 0 < mark n W a → Cursor ws a (cursor n W a) → low ≡ mark n W a → e ≡ cursor n W a
@@ -47,7 +48,7 @@ scan_start {n} {ws} {W} {a} {low} {e} p c ql qe =
 
 -- one place of the list
 module _ {n : ℕ} {ws W : List ℕ} {a low e z e' : ℕ} (s : Sizes n ws W) (nx : Nexts n ws W) (h : Scanning n ws W a low e) (p : 0 < e)
-    (qz : z ≡ get_or ws (opposite (e - 1)) 0) (qe : e' ≡ next n W (e - 1)) where
+    (qz : z ≡ get_or ws (other_end (e - 1)) 0) (qe : e' ≡ next n W (e - 1)) where
   -- it is a step from a to z
   pub scan_step : (k : ℕ) × Step ws a k z
   scan_step = ((e - 1) / 2, end_step s (omega (arith, (h.cur.at p).0)) (h.cur.at p).1 qz)
@@ -65,7 +66,7 @@ module _ {n : ℕ} {ws W : List ℕ} {a low e z e' : ℕ} (s : Sizes n ws W) (nx
         cur = cursor_next nx h.cur p qe;
         seen = λ i l q u. ⊎_elim
             (λ (v : i ≡ e - 1). inr (rw (v, ← qz) (omega arith, l1)))
-            (λ (v : Passed e i). ⊎_elim (λ w. inl w) (λ (w : Ranked n W low (get_or ws (opposite i) 0)). inr (w.0, omega (arith, w.1))) (h.seen i l q v))
+            (λ (v : Passed e i). ⊎_elim (λ w. inl w) (λ (w : Ranked n W low (get_or ws (other_end i) 0)). inr (w.0, omega (arith, w.1))) (h.seen i l q v))
             (cursor_passed nx h.cur p qe i l q u);
       }
 
@@ -80,7 +81,7 @@ module _ {n : ℕ} {ws W : List ℕ} {a low e z e' : ℕ} (s : Sizes n ws W) (nx
         cur = cursor_next nx h.cur p qe;
         seen = λ i l q u. ⊎_elim
             (λ (v : i ≡ e - 1). inr (inr (rw (v, ← qz) refl)))
-            (λ (v : Passed e i). ⊎_elim (λ w. inl w) (λ (w : Ranked n W low (get_or ws (opposite i) 0)). inr (inl w)) (h.seen i l q v))
+            (λ (v : Passed e i). ⊎_elim (λ w. inl w) (λ (w : Ranked n W low (get_or ws (other_end i) 0)). inr (inl w)) (h.seen i l q v))
             (cursor_passed nx h.cur p qe i l q u);
         new = λ u. rw f (step_to s a scan_step.0 z scan_step.1, r0, scan_step);
         end = λ u. absurd (omega arith);
@@ -94,7 +95,7 @@ scan_end {n} {ws} {W} {a} {low} {e} h z =
       less = h.less;
       why = h.why;
       cur = record { at = λ u. absurd (omega arith) };
-      seen = λ i l q u. ⊎_elim (λ w. inl w) (λ (w : Ranked n W low (get_or ws (opposite i) 0)). inr (inl w)) (h.seen i l q (inl (omega arith)));
+      seen = λ i l q u. ⊎_elim (λ w. inl w) (λ (w : Ranked n W low (get_or ws (other_end i) 0)). inr (inl w)) (h.seen i l q (inl (omega arith)));
       new = λ u. absurd (omega arith);
       end = λ u. refl;
     }

@@ -9,6 +9,7 @@ use Rattle.components.specs.Leads.{Lead}
 use Rattle.components.specs.Walk.{In, Accounted, Dfs}
 use Rattle.meaning.specs.Chains.{Step, Chain, Reach, Tied}
 use Rattle.meaning.specs.Codes.{opposite}
+use Rattle.meaning.specs.Rules.{other_end}
 use Rattle.components.proofs.Walking.{unsettled}
 use Rattle.components.proofs.Ways.{join, once, Words, step_lt, reach_lt}
 use Rattle.meaning.proofs.General.{same?, below_or_from, find?}
@@ -186,7 +187,7 @@ module _ {N : ℕ} {ws : List ℕ} {r s d cu : ℕ → ℕ} {t m : ℕ} (h : Dfs
         seen = λ p e u v q w.
             let z = h.seen p e (omega (arith, last_on_stack)) v q w in
             record {
-              has = alive (get_or ws (opposite e) 0) (ok.inside e v) z.has;
+              has = alive (get_or ws (other_end e) 0) (ok.inside e v) z.has;
               low = λ q' u' e'. rw (kept p u) (z.low q' (omega (arith, last_on_stack)) e');
             };
         whole = wholes;
@@ -252,7 +253,7 @@ module _ {N : ℕ} {ws : List ℕ} {r s d cu : ℕ → ℕ} {t k : ℕ} (h : Dfs
         seen = λ p e l m q u.
             let w = h.seen p e l m q u in
             record {
-              has = lives (get_or ws (opposite e) 0) (ok.inside e m) w.has;
+              has = lives (get_or ws (other_end e) 0) (ok.inside e m) w.has;
               low = λ q' l' e'. rw (fixed_on_stack p l) (w.low q' l' e');
             };
         whole = λ x y l m f. ⊎_elim

@@ -9,6 +9,7 @@ use Rattle.components.specs.Leads.{Lead, Side}
 use Rattle.components.specs.Walk.{Ranked, PartClosed, Least, cursor, Accounted, Dfs, WalkState, Old, Scanned, Stacked, Beyond, Settled, opposites, Lifted, TurnMade, Walking, Alike, moved, noted}
 use Rattle.meaning.specs.Chains.{Step, Reach, Tied}
 use Rattle.meaning.specs.Codes.{opposite}
+use Rattle.meaning.specs.Rules.{other_end}
 use Rattle.moves.specs.Layout.{mark, trail, spare, next, Tables, Sizes}
 use Rattle.moves.specs.Lists.{Cursor}
 use Rattle.components.proofs.Settling.{alive, exact, round, collected, lives, mirrored}
@@ -94,7 +95,7 @@ module _ {n : ℕ} {ws W : List ℕ} {t k : ℕ} (sz : Sizes n ws W) (pk : 0 < k
         room_for g = omega (arith, h.count, count_lt (mark n W) (2 * n) (hit - 1) g.0 g.1)
 
   -- an end leads to a code
-  target : (i : ℕ) → i < length ws → get_or ws (opposite i) 0 < 2 * n
+  target : (i : ℕ) → i < length ws → get_or ws (other_end i) 0 < 2 * n
   target i l = (words_of sz).inside i l
 
   -- after `note`
@@ -129,8 +130,8 @@ module _ {n : ℕ} {ws W : List ℕ} {t k : ℕ} (sz : Sizes n ws W) (pk : 0 < k
         (λ i l q u. ⊎_elim
         (λ (w : Old n W (last_code n W k) i). noted_walk.seen (last_place n W k) i last_of.place l q w)
         (λ w. ⊎_elim
-        (λ (v : Ranked n W low (get_or ws (opposite i) 0)). noted_past (get_or ws (opposite i) 0) (target i l) v)
-        (λ (v : get_or ws (opposite i) 0 + 1 ≡ hit). absurd (omega (arith, v)))
+        (λ (v : Ranked n W low (get_or ws (other_end i) 0)). noted_past (get_or ws (other_end i) 0) (target i l) v)
+        (λ (v : get_or ws (other_end i) 0 + 1 ≡ hit). absurd (omega (arith, v)))
         w)
         (f.seen i l q (rw nt.cur at u))))
 
@@ -242,12 +243,12 @@ module _ {n : ℕ} {ws W : List ℕ} {t k : ℕ} (sz : Sizes n ws W) (pk : 0 < k
           (rw (pushed_code, pushed_cursor) f.cur.at)
           (λ i l q u. ⊎_elim
           (λ (w : Old n W (last_code n W k) i). pushed_walk.seen (last_place n W₂ k) i (omega (arith, pushed_place, last_of.place)) l q (rw pushed_code w))
-          (λ (w : Ranked n W low (get_or ws (opposite i) 0) ⊎ (get_or ws (opposite i) 0 + 1 ≡ hit)). ⊎_elim
-          (λ (v : Ranked n W low (get_or ws (opposite i) 0)).
-          pushed_past (get_or ws (opposite i) 0) (pushed_met (get_or ws (opposite i) 0) (target i l) v.0) (λ q' a b. omega (arith, v.1, ap (mark n W) b, (h.stacked q' a).2)))
-          (λ (v : get_or ws (opposite i) 0 + 1 ≡ hit).
-          let y : get_or ws (opposite i) 0 ≡ hit - 1 = omega arith in
-          pushed_past (get_or ws (opposite i) 0) (rw (y, pu.rank) (omega arith)) (λ q' a b. absurd (omega (arith, ap (mark n W) (b ∙ y), (f.new ph).1, (h.stacked q' a).1))))
+          (λ (w : Ranked n W low (get_or ws (other_end i) 0) ⊎ (get_or ws (other_end i) 0 + 1 ≡ hit)). ⊎_elim
+          (λ (v : Ranked n W low (get_or ws (other_end i) 0)).
+          pushed_past (get_or ws (other_end i) 0) (pushed_met (get_or ws (other_end i) 0) (target i l) v.0) (λ q' a b. omega (arith, v.1, ap (mark n W) b, (h.stacked q' a).2)))
+          (λ (v : get_or ws (other_end i) 0 + 1 ≡ hit).
+          let y : get_or ws (other_end i) 0 ≡ hit - 1 = omega arith in
+          pushed_past (get_or ws (other_end i) 0) (rw (y, pu.rank) (omega arith)) (λ q' a b. absurd (omega (arith, ap (mark n W) (b ∙ y), (f.new ph).1, (h.stacked q' a).1))))
           w)
           (f.seen i l (q ∙ ap opposite pushed_code) (rw (pushed_code, pushed_cursor) at u)))
 

@@ -8,6 +8,7 @@ use lib.ListN.{length, get_or}
 use Rattle.components.specs.Walk.{In, Accounted, Dfs}
 use Rattle.meaning.specs.Chains.{Reach}
 use Rattle.meaning.specs.Codes.{opposite}
+use Rattle.meaning.specs.Rules.{other_end}
 use Rattle.components.proofs.Ways.{join, here, Words, reach_lt}
 use Rattle.meaning.proofs.General.{same?, below_or_from}
 use Rattle.moves.proofs.Counts.{count_le, count_lt, count_more, count_mono}
@@ -137,7 +138,7 @@ module _ {N : ℕ} {ws : List ℕ} {r s d cu : ℕ → ℕ} {t k : ℕ} (h : Dfs
           seen = λ p e l m q u.
               let w = h.seen p e l m q u in
               record {
-                has = still_met (get_or ws (opposite e) 0) (ok.inside e m) w.has;
+                has = still_met (get_or ws (other_end e) 0) (ok.inside e m) w.has;
                 low = λ q' l' e'. omega (arith, under p l, w.low q' l' e');
               };
           whole = λ x y l m a.
@@ -152,7 +153,7 @@ module _ {N : ℕ} {ws : List ℕ} {r s d cu : ℕ → ℕ} {t k : ℕ} (h : Dfs
   -- ---- the cursor of a code of the path goes on
   module _ (i : ℕ) (li : i < k) (cu' : ℕ → ℕ) (co : (x : ℕ) → x < N → x ≢ s (d i) → cu' x ≡ cu x)
       (cc' : 0 < cu' (s (d i)) → (cu' (s (d i)) ≤ length ws) × (get_or ws (cu' (s (d i)) - 1) 0 ≡ opposite (s (d i))))
-      (cs : (e : ℕ) → e < length ws → get_or ws e 0 ≡ opposite (s (d i)) → (cu' (s (d i)) ≡ 0) ⊎ (e + 1 < cu' (s (d i))) → Accounted r s t (d i) (get_or ws (opposite e) 0)) where
+      (cs : (e : ℕ) → e < length ws → get_or ws e 0 ≡ opposite (s (d i)) → (cu' (s (d i)) ≡ 0) ⊎ (e + 1 < cu' (s (d i))) → Accounted r s t (d i) (get_or ws (other_end e) 0)) where
     -- the code stands on the stack
     on_stack_too : d i < t
     on_stack_too = (h.climb i li).1
@@ -309,7 +310,7 @@ module _ {N : ℕ} {ws : List ℕ} {r s d cu : ℕ → ℕ} {t k : ℕ} (h : Dfs
               let lp : p < t = omega arith in
               let w = h.seen p e lp m q u in
               record {
-                has = (met_stays (get_or ws (opposite e) 0) (ok.inside e m) w.has).1;
+                has = (met_stays (get_or ws (other_end e) 0) (ok.inside e m) w.has).1;
                 low = λ q' l' e'. ⊎_elim
                     (λ (g : q' ≡ t). absurd (omega (arith, w.has, ap r (sym e' ∙ ap s g ∙ st))))
                     (λ (g : q' ≢ t). rw (rank_stays p lp) (w.low q' (omega arith) e'))

@@ -6,6 +6,7 @@ use native.Mathlib.Omega.{arith}
 use lib.ListN.{length, get_or}
 use Rattle.meaning.specs.Chains.{Step, Chain, Reach, Tied}
 use Rattle.meaning.specs.Codes.{opposite}
+use Rattle.meaning.specs.Rules.{other_end}
 use Rattle.moves.specs.Layout.{Sizes}
 use Rattle.meaning.proofs.ChainLaws.{reach_trans, reach_flip, reach_turn, reach_step}
 use Rattle.meaning.proofs.CodeLaws.{opposite_opposite}
@@ -41,14 +42,14 @@ tied_join p q = (join p.0 q.0, join q.1 p.1)
 
 -- what the walk uses of the words: each holds a code below N, and each step has an end
 pub record Words (N : ℕ) (ws : List ℕ) : Type 0 where
-  pub inside : (e : ℕ) → e < length ws → get_or ws (opposite e) 0 < N
-  pub ends : (a k b : ℕ) → Step ws a k b → (e : ℕ) × (e < length ws) × (get_or ws e 0 ≡ opposite a) × (get_or ws (opposite e) 0 ≡ b)
+  pub inside : (e : ℕ) → e < length ws → get_or ws (other_end e) 0 < N
+  pub ends : (a k b : ℕ) → Step ws a k b → (e : ℕ) × (e < length ws) × (get_or ws e 0 ≡ opposite a) × (get_or ws (other_end e) 0 ≡ b)
 
 -- an accepted list has them
 pub words_of : {n : ℕ} {ws W : List ℕ} → Sizes n ws W → Words (2 * n) ws
 words_of {n} {ws} s =
     record {
-      inside = λ e l. word_below s (opposite e) (other_end_below e (length ws) s.even l);
+      inside = λ e l. word_below s (other_end e) (other_end_below e (length ws) s.even l);
       ends = λ a k b st. let w = step_end s st in (w.0, w.1, w.2, w.3);
     }
 

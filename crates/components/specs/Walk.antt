@@ -3,6 +3,7 @@
 use Rattle.std.specs.Prelude.{◌≡◌, ◌⊎◌, ◌≢◌, Option, Some, None, List, ℕ, ◌+◌, ◌-◌, ◌*◌, ◌≤◌, ◌<◌, length, get_or, set}
 use Rattle.meaning.specs.Chains.{Step, Reach, Tied}
 use Rattle.meaning.specs.Codes.{opposite}
+use Rattle.meaning.specs.Rules.{other_end}
 use Rattle.meaning.specs.Sizes.{max_choices}
 use Rattle.moves.specs.Layout.{Tables, Sizes, head, mark, trail, spare, next, head_at, mark_at, trail_at, spare_at}
 use Rattle.moves.specs.Lists.{FirstEnd, Nexts, Cursor, Passed}
@@ -91,7 +92,7 @@ pub record Dfs (N : ℕ) (ws : List ℕ) (r s d cu : ℕ → ℕ) (t k : ℕ) : 
   -- a cursor on the stack is 0 or in its list
   pub cur : (p : ℕ) → p < t → 0 < cu (s p) → (cu (s p) ≤ length ws) × (get_or ws (cu (s p) - 1) 0 ≡ opposite (s p))
   -- the ends before a cursor are taken into account
-  pub seen : (p e : ℕ) → p < t → e < length ws → get_or ws e 0 ≡ opposite (s p) → Passed (cu (s p)) e → Accounted r s t p (get_or ws (opposite e) 0)
+  pub seen : (p e : ℕ) → p < t → e < length ws → get_or ws e 0 ≡ opposite (s p) → Passed (cu (s p)) e → Accounted r s t p (get_or ws (other_end e) 0)
   -- what is tied to a settled code is settled
   pub whole : (x y : ℕ) → x < N → N < r x → Tied ws x y → N < r y
   -- the rank of a settled code tells its lead
@@ -130,7 +131,7 @@ pub record Scanned (n : ℕ) (ws W : List ℕ) (a e low hit : ℕ) : Type 0 wher
   pub why : (low ≡ mark n W a) ⊎ ((z : ℕ) × ((k : ℕ) × Step ws a k z) × (mark n W z ≡ low))
   pub cur : Cursor ws a e
   pub seen : (i : ℕ) → i < length ws → get_or ws i 0 ≡ opposite a → Passed e i
-      → Old n W a i ⊎ Ranked n W low (get_or ws (opposite i) 0) ⊎ (get_or ws (opposite i) 0 + 1 ≡ hit)
+      → Old n W a i ⊎ Ranked n W low (get_or ws (other_end i) 0) ⊎ (get_or ws (other_end i) 0 + 1 ≡ hit)
   pub new : 0 < hit → (hit - 1 < 2 * n) × (mark n W (hit - 1) ≡ 0) × ((k : ℕ) × Step ws a k (hit - 1))
   pub end : hit ≡ 0 → e ≡ 0
 

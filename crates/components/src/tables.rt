@@ -3,7 +3,7 @@
 // ends lead on from the code: the walk uses the heads up, so that it needs no cursors besides. Each store has an exact contract:
 // what it means for the walk is said over the ranks, the stack, the path and the cursors as functions, and never sees a store.
 ghost use Rattle.std.specs.Prelude.{◌≡◌, ℕ, ◌+◌, ◌-◌, ◌*◌, ◌≤◌, ◌<◌, length, get_or};
-ghost use Rattle.meaning.specs.Codes.{opposite};
+ghost use Rattle.meaning.specs.Rules.{other_end};
 ghost use Rattle.meaning.specs.Sizes.{max_choices};
 ghost use Rattle.moves.specs.Layout.{Tables, mark, trail, spare, next, next_at};
 ghost use Rattle.components.specs.Walk.{cursor, Room, moved, reranked, noted, stacked_on};
@@ -13,7 +13,8 @@ use crate::ties::Ranks;
 use meaning::Code;
 use moves::ends::{code_at, other_end};
 use moves::layout::{
-    head_of, mark_of, next_of, set_head, set_mark, set_spare, set_trail, spare_of, trail_code,
+    head_of, mark_of, next_of, set_head, set_mark, set_spare_word, set_trail, spare_word,
+    trail_code,
 };
 use std::marker::Model;
 
@@ -118,7 +119,7 @@ impl<'a> Walk<'a> {
         requires { (0 < back) × (back ≤ self.now.depth) × (self.now.depth ≤ 2 * self.now.n) }
         ensures { result ≡ spare self.now.n self.now.tables (self.now.depth - back) }
     {
-        usize::from(spare_of(self.n, self.tables, Code((self.depth - back) as u16)))
+        usize::from(spare_word(self.n, self.tables, self.depth - back))
     }
 
     // One more than the end where the list of a goes on, or 0.
@@ -131,8 +132,8 @@ impl<'a> Walk<'a> {
 
     // The code that the end e of a list leads to.
     pub(crate) fn led_to(&self, e: usize) -> Code
-        requires { opposite e < length self.now.words }
-        ensures { result.0 ≡ get_or self.now.words (opposite e) 0 }
+        requires { other_end e < length self.now.words }
+        ensures { result.0 ≡ get_or self.now.words (other_end e) 0 }
     {
         code_at(self.words, other_end(e))
     }
@@ -160,12 +161,7 @@ impl<'a> Walk<'a> {
         ensures { self.new ≡ moved self.old (stacked_on self.old.n self.old.tables z.0 self.old.top self.old.depth) (self.old.top + 1) (self.old.depth + 1) }
     {
         set_trail(self.n, self.tables, self.top, z);
-        set_spare(
-            self.n,
-            self.tables,
-            Code(self.depth as u16),
-            self.top as u16,
-        );
+        set_spare_word(self.n, self.tables, self.depth, self.top as u16);
         self.top += 1;
         self.depth += 1;
         set_mark(self.n, self.tables, z, self.top as u16);

@@ -1,4 +1,5 @@
--- Every rota, of the engine itself: a call of `decide` and then calls of `next` until it ends list every allowed rota, each once, in dictionary order, and no other.
+-- Every rota, of the engine itself: on a possible list that no refusal applies to, `decide` and then `next` until it ends, which it does, list every allowed rota,
+-- each once, in dictionary order, and no other.
 -- A call is here all that the function's own contract tells its caller, and nothing more.
 use mathlib.Core.Path.{◌≡◌}
 use mathlib.Core.List.{List, ◌∷◌}
@@ -11,7 +12,9 @@ use Rattle.meaning.specs.declared.answers.Decided.{Decided}
 use Rattle.meaning.specs.declared.answers.Moved.{Moved}
 use Rattle.meaning.specs.declared.refusal.Refusal.{Refusal}
 use Rattle.meaning.specs.Promises.{Decides, Moves}
-use Rattle.meaning.specs.Runs.{RunOf, EveryRota}
+use Rattle.meaning.specs.Rotas.{Possible}
+use Rattle.meaning.specs.Runs.{RunOf, EveryRota, Acceptable, ListsEveryRota}
+use Rattle.meaning.proofs.EveryRotaListed.{calls_list_all}
 use Rattle.meaning.proofs.EveryRotaOnce.{calls_list_every_rota}
 use Rattle.engine.specs.contracts.decide as decide
 use Rattle.engine.proofs.decide.Reads as decide_reads
@@ -60,6 +63,10 @@ next_keeps n ws area work r area' work' c = tells Moves r c.κs c.args c.exits c
 abbrev pub EngineRun : ℕ → List ℕ → List ℕ → List (List ℕ) → Type 1
 EngineRun n ws = RunOf n (NextCall n ws) (DecideCall n ws)
 
--- every allowed rota, each once, in dictionary order, by the engine's own calls
+-- what a run that has ended lists
 pub engine_lists_every_rota : (n : ℕ) (ws r : List ℕ) (rs : List (List ℕ)) → EngineRun n ws r rs → EveryRota n ws (r ∷ rs)
 engine_lists_every_rota n ws r rs c = calls_list_every_rota n ws (DecideCall n ws) (NextCall n ws) (decide_keeps n ws) (next_keeps n ws) r rs c
+
+-- the calls are answered, go on, and end with the last rota
+pub engine_goes_through_every_rota : (n : ℕ) (ws : List ℕ) → Acceptable n ws → Possible n ws → ListsEveryRota n ws (NextCall n ws) (DecideCall n ws)
+engine_goes_through_every_rota n ws ok possible = calls_list_all n ws ok possible (NextCall n ws) (next_keeps n ws) (DecideCall n ws) (decide_keeps n ws)

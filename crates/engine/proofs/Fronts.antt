@@ -6,12 +6,12 @@ use native.Mathlib.Omega.{arith}
 use lib.ListN.{length, take, drop, replicate}
 use lib.Seq.{length-take-le}
 use Rattle.std.specs.Prelude.{Ok}
+use Rattle.meaning.specs.Accepted.{Accepted}
 use Rattle.meaning.specs.Promises.{Keeps}
 use Rattle.meaning.specs.Refusals.{Due}
 use Rattle.meaning.specs.Sizes.{work_needs, cleared, over}
 use Rattle.meaning.proofs.Keeping.{keeps_answer}
 use Rattle.moves.specs.Layout.{Sizes}
-use Rattle.meaning.proofs.RefusalLaws.{Accepted}
 use Rattle.moves.proofs.Clearing.{over_zeros}
 
 module _ (n : ℕ) (ws W : List ℕ) (used : ℕ) (enough : (used ≡ work_needs n ws) × (used ≤ length W)) where

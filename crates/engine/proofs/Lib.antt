@@ -2,3 +2,5 @@
 pub mod Fronts
 pub mod Answering
 pub mod EveryRota
+pub mod Visiting
+pub mod Meaning

@@ -6,10 +6,12 @@
 ghost use Rattle.std.specs.Prelude.{◌≡◌, length, replicate};
 ghost use Rattle.meaning.specs.Promises.{Clashes, Decides, Forces, Moves, TiesUp};
 
+mod visit; // every rota, one after the other
+
 use chains::chain::chain;
 use checks::accept::{accept, accept_next, chains_need};
 use components::walk::components;
-use meaning::{Choice, Clashed, Code, Decided, Listed, Moved, Refusal};
+use meaning::{Clashed, Code, Decided, Listed, Moved, Refusal};
 use moves::index::prepare;
 use moves::work::Work;
 use replay::turn::find_next;
@@ -17,6 +19,7 @@ use rounds::bytes::put_forced;
 use rounds::round::sweep;
 use search::first::search;
 use search::rota::put_rota;
+pub use visit::each_rota;
 
 // The first allowed rota; or the lowest choice that clashes.
 pub fn decide(
@@ -30,7 +33,7 @@ pub fn decide(
     let used = accept(n, words, rota.len(), n, work.len())?;
     let front = &mut work[..used];
     let mut state = Work::new(n, words, front);
-    let answer = match search(&mut state, Choice(0)) {
+    let answer = match search(&mut state, 0) {
         Ok(()) => {
             put_rota(state.view(), rota);
             Decided::Possible
@@ -48,7 +51,7 @@ pub fn forced(n: usize, words: &[u16], area: &mut [u8], work: &mut [u16]) -> Res
     let used = accept(n, words, area.len(), n, work.len())?;
     let front = &mut work[..used];
     let mut state = Work::new(n, words, front);
-    let answer = match search(&mut state, Choice(0)) {
+    let answer = match search(&mut state, 0) {
         Ok(()) => {
             sweep(&mut state);
             put_forced(state.view(), area);
@@ -72,7 +75,7 @@ pub fn clash(
     let used = accept(n, words, chains.len(), chains_need(n), work.len())?;
     let front = &mut work[..used];
     let mut state = Work::new(n, words, front);
-    let answer = match search(&mut state, Choice(0)) {
+    let answer = match search(&mut state, 0) {
         Ok(()) => Clashed::Possible,
         Err(choice) => {
             state.undo_to(0);

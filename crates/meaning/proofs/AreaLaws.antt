@@ -8,7 +8,7 @@ use native.Mathlib.Decide.{ℕ_discrete}
 use native.Mathlib.Numerals.{add-one}
 use lib.ListN.{length, get_or, set, take, drop, length-set, length-append, length-drop, take-append-drop, get_or-append}
 use lib.Seq.{length-take-le, ext_get_or, get_or-set_same, get_or-set_other, get_or-append-add, get_or-drop, set_split, take_at, drop_at, drop-drop}
-use Rattle.meaning.specs.Sizes.{over}
+use Rattle.meaning.specs.Sizes.{over, over_at}
 use Rattle.meaning.proofs.General.{below_or_from, build, length_build, get_or_build}
 
 -- the first k items of an area are f 0, f 1, .., and the rest is as it was
@@ -54,10 +54,6 @@ written_over n f area area' h w =
     ext_get_or 0 area' (over (build n f) area) (w.long ∙ sym (over_length (build n f) area (omega arith)))
     (λ i l. ⊎_elim (λ m. w.front i m ∙ sym (over_front (build n f) area i (omega arith) ∙ get_or_build n f i m))
     (λ m. w.rest i m ∙ sym (over_rest (build n f) area i (omega arith))) (below_or_from i n))
-
--- an area with xs written from the place `at` on: the rest stays
-abbrev pub over_at : ℕ → List ℕ → List ℕ → List ℕ
-over_at at xs area = take at area ++ over xs (drop at area)
 
 -- nothing written changes nothing
 pub over_at_none : (at : ℕ) (area : List ℕ) → over_at at [] area ≡ area

@@ -1,4 +1,4 @@
--- Every rota, over the promises: a run that starts at Decide's rota and goes on by Next until Ended lists every allowed rota, each once,
+-- Over the promises: a run that starts at Decide's rota and goes on by Next until Ended lists every allowed rota, each once,
 -- in dictionary order, and no other.
 use mathlib.Core.Path.{◌≡◌, sym, ◌∙◌}
 use mathlib.Core.Logic.{◌⊎◌, inl, inr, ⊎_elim}
@@ -80,7 +80,7 @@ module _ (n : ℕ) (ws : List ℕ) where
         ascending = (follow_after r rs p.1, follow_ascending r rs p.1);
       }
 
--- every allowed rota, each once, in dictionary order
+-- every rota, once
 pub every_rota_once : (n : ℕ) (ws r : List ℕ) (rs : List (List ℕ)) → Run n ws r rs → EveryRota n ws (r ∷ rs)
 every_rota_once n ws r rs p = in_order_every n ws r rs (run_in_order n ws r rs p)
 

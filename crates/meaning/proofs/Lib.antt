@@ -15,9 +15,14 @@ pub mod ChainLength
 pub mod NextLaws
 pub mod Unique
 pub mod RefusalLaws
+pub mod Accepting
 pub mod Once
 pub mod Keeping
 pub mod EveryRotaOnce
+pub mod Counting
 pub mod Tests
 pub mod Exists
 pub mod Outcomes
+pub mod EveryRotaListed
+pub mod Collecting
+pub mod Meaning

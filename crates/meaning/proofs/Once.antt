@@ -14,6 +14,7 @@ use Rattle.meaning.specs.declared.answers.Moved.{Moved}
 use Rattle.meaning.specs.Chains.{Tie}
 use Rattle.meaning.specs.Codes.{late, early}
 use Rattle.meaning.specs.declared.refusal.Refusal.{Refusal}
+use Rattle.meaning.specs.Outcomes.{Same}
 use Rattle.meaning.specs.Promises.{Keeps, DecideSays, Decides, ListedSays, Forces, TiesUp, BothChains, ClashSays, Clashes, NextSays, Moves}
 use Rattle.meaning.specs.Refusals.{number_of, place_of, Due, as_due, list_due, next_due}
 use Rattle.meaning.specs.Rotas.{Allowed, Forced}
@@ -22,12 +23,8 @@ use Rattle.meaning.proofs.ChainLaws.{clash_impossible}
 use Rattle.meaning.proofs.RefusalLaws.{due_named, not_refused}
 use Rattle.meaning.proofs.Unique.{first_unique, next_unique, next_not_ended, forced_unique, shortest_unique, lowest_unique, tie_unique}
 
--- an answer and the two areas after the call
-abbrev pub Same : {A : Type 0} → A → List ℕ → List ℕ → A → List ℕ → List ℕ → Type 0
-Same a area₁ work₁ b area₂ work₂ = (a ≡ b) × (area₁ ≡ area₂) × (work₁ ≡ work₂)
-
 -- refusals of one number and place are one
-same_refused : (r s : Refusal) → as_due r ≡ as_due s → r ≡ s
+pub same_refused : (r s : Refusal) → as_due r ≡ as_due s → r ≡ s
 same_refused r s e = due_named r (number_of s) (place_of s) e ∙ sym (due_named s (number_of s) (place_of s) refl)
 
 -- The form that all calls share: what a call says fixes its answer and its items, and what is due fixes its refusal.
@@ -45,7 +42,7 @@ module _ {A : Type 0} (says : A → List ℕ → Type 0) (once : (a b : A) (xs y
 -- Decide
 
 -- two choices with one number are one
-same_choice : (u v : Choice) → u.0 ≡ v.0 → u ≡ v
+pub same_choice : (u v : Choice) → u.0 ≡ v.0 → u ≡ v
 same_choice u v e = λ i. record { 0 = e i }
 
 module _ (n : ℕ) (ws : List ℕ) where

@@ -7,14 +7,15 @@ use Prim.Native.Nat.{ℕ, zero, suc, ◌≤◌, ◌<◌}
 use native.Mathlib.Omega.{arith}
 use lib.ListN.{length, get_or, take, get_or-eq_default}
 use lib.Seq.{length-take-le}
-use Rattle.std.specs.Prelude.{Result, Ok, Err}
-use Rattle.meaning.specs.declared.refusal.Refusal.{Refusal}
+use Rattle.std.specs.Prelude.{Ok, Err}
 use Rattle.meaning.specs.declared.answers.Decided.{Decided}
 use Rattle.meaning.specs.declared.answers.Listed.{Listed}
 use Rattle.meaning.specs.declared.answers.Clashed.{Clashed}
 use Rattle.meaning.specs.declared.answers.Moved.{Moved}
+use Rattle.meaning.specs.Accepted.{Accepted}
 use Rattle.meaning.specs.Chains.{Clash, LowestClash, Tie}
 use Rattle.meaning.specs.Codes.{late, early}
+use Rattle.meaning.specs.Outcomes.{Outcome}
 use Rattle.meaning.specs.Promises.{Keeps, DecideSays, Decides, Each, ListedSays, Forces, TiesUp, ClashSays, Clashes, NextSays, Moves}
 use Rattle.meaning.specs.Refusals.{Due, refused, as_due, Check, check, first_of, list_checks, next_checks, list_due, next_due}
 use Rattle.meaning.specs.Rotas.{Rota, Forced}
@@ -24,7 +25,7 @@ use Rattle.meaning.proofs.ChainLaws.{clash_impossible}
 use Rattle.meaning.proofs.Exists.{tie_exists, forced_exists, shortest_exists}
 use Rattle.meaning.proofs.General.{below_or_from}
 use Rattle.meaning.proofs.NextLaws.{next_or_ended}
-use Rattle.meaning.proofs.RefusalLaws.{not_refused, Accepted, accepted, next_accepted, named, AllNamed}
+use Rattle.meaning.proofs.RefusalLaws.{not_refused, accepted, next_accepted, named, AllNamed}
 use Rattle.meaning.proofs.TwoSat.{possible_or_clash, possible_free}
 
 -- so what is due is a refusal
@@ -50,10 +51,6 @@ next_named n ws rota work = due_is_named (next_checks n ws rota work) (refl, (re
 abbrev pub Saying : {A : Type 0} → (A → List ℕ → Type 0) → Type 0
 Saying {A} says = (a : A) × ((xs : List ℕ) × says a xs)
 
--- an outcome of a call
-abbrev pub Outcome : (A : Type 0) → (Result A Refusal → List ℕ → List ℕ → Type 0) → Type 0
-Outcome A promise = (a : Result A Refusal) × (area' : List ℕ) × (work' : List ℕ) × promise a area' work'
-
 module _ {A : Type 0} (says : A → List ℕ → Type 0) (n : ℕ) (ws area work : List ℕ) where
   -- what is due decides
   keeps_exists : (due : Due) → ((number place : ℕ) → due ≡ refused number place → as_due (named number place) ≡ refused number place) →
@@ -65,7 +62,7 @@ module _ {A : Type 0} (says : A → List ℕ → Type 0) (n : ℕ) (ws area work
       (Err (named number place), area, work, record { refuses = names number place refl; after = record { area_stays = refl; work_stays = refl } })
 
 -- the possible list: what holds of each choice, as a list
-each_exists : (Item : ℕ → ℕ → Type 0) (n : ℕ) → ((v : ℕ) → v < n → (x : ℕ) × Item v x) → (xs : List ℕ) × Each n Item xs
+pub each_exists : (Item : ℕ → ℕ → Type 0) (n : ℕ) → ((v : ℕ) → v < n → (x : ℕ) × Item v x) → (xs : List ℕ) × Each n Item xs
 each_exists Item zero f = ([], record { long = refl; each = λ v h. absurd (omega arith) })
 each_exists Item (suc n) f =
     let rest = each_exists (λ v. Item (suc v)) n (λ v h. f (suc v) (omega arith)) in

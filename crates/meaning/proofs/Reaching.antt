@@ -2,16 +2,25 @@
 use mathlib.Core.Path.{◌≡◌, refl, sym, ap, ◌∙◌, subst, subst₂}
 use mathlib.Core.Logic.{◌⊎◌, inl, inr, ⊎_elim}
 use mathlib.Core.List.{List, [], ◌∷◌}
-use Prim.Native.Nat.{ℕ, zero, suc, ◌*◌, ◌/◌, ◌≤◌, ◌<◌}
+use Prim.Native.Nat.{ℕ, zero, suc, ◌+◌, ◌*◌, ◌/◌, ◌≤◌, ◌<◌}
 use native.Mathlib.Omega.{arith}
 use native.Mathlib.Decide.{ℕ_discrete}
 use lib.ListN.{get_or}
 use Rattle.meaning.specs.Chains.{Step, Chain, Reach}
 use Rattle.meaning.specs.Codes.{late, early, opposite}
-use Rattle.meaning.specs.Rules.{rules}
+use Rattle.meaning.specs.Rules.{rules, other_end}
 use Rattle.meaning.proofs.ChainLaws.{reach_step, reach_trans}
-use Rattle.meaning.proofs.CodeLaws.{opposite_opposite, opposite_late, opposite_early, late_or_early}
+use Rattle.meaning.proofs.CodeLaws.{opposite_opposite, late_or_early}
 use Rattle.meaning.proofs.General.{below_suc}
+
+-- the ends of a rule are each other's other end
+pub other_first : (k : ℕ) → other_end (2 * k) ≡ 2 * k + 1
+unfolding other_end
+other_first k = omega arith
+
+pub other_second : (k : ℕ) → other_end (2 * k + 1) ≡ 2 * k
+unfolding other_end
+other_second k = omega arith
 
 module _ (ws : List ℕ) where
   -- edge e: rule e / 2 leads from the opposite of word e to the other word of the rule
@@ -19,7 +28,7 @@ module _ (ws : List ℕ) where
   fro e = opposite (get_or ws e 0)
 
   unfoldable pub to : ℕ → ℕ
-  to e = get_or ws (opposite e) 0
+  to e = get_or ws (other_end e) 0
 
   -- c reaches d by edges below e
   unfoldable pub Way : ℕ → ℕ → ℕ → Type 0
@@ -28,7 +37,7 @@ module _ (ws : List ℕ) where
 
   -- whether it does is decided
   unfoldable pub way? : (e c d : ℕ) → Dec (Way e c d)
-  unfolding Way fro to ℕ_discrete opposite
+  unfolding Way fro to ℕ_discrete opposite other_end
   way? zero c d = ℕ_discrete c d
   way? (suc e) c d =
       dec (way? e c d) (way? e c (fro e)) (way? e (to e) d)
@@ -68,8 +77,8 @@ module _ (ws : List ℕ) where
       record {
         is_rule = omega arith;
         leads = ⊎_elim
-            (λ q. inl (ap at (sym q) ∙ sym (opposite_opposite (at e)), ap at (sym (ap opposite q ∙ opposite_late (e / 2)))))
-            (λ q. inr (ap at (sym q) ∙ sym (opposite_opposite (at e)), ap at (sym (ap opposite q ∙ opposite_early (e / 2)))))
+            (λ q. inl (ap at (sym q) ∙ sym (opposite_opposite (at e)), ap at (sym (ap other_end q ∙ other_first (e / 2)))))
+            (λ q. inr (ap at (sym q) ∙ sym (opposite_opposite (at e)), ap at (sym (ap other_end q ∙ other_second (e / 2)))))
             (late_or_early e);
       }
     where
@@ -89,8 +98,8 @@ module _ (ws : List ℕ) where
   pub step_way : (a k b : ℕ) → Step ws a k b → Way (2 * rules ws) a b
   unfolding fro to
   step_way a k b s =
-      ⊎_elim (λ h. by (late k) (omega (arith, s.is_rule)) (ap opposite h.0 ∙ opposite_opposite a) (ap at (opposite_late k) ∙ h.1))
-      (λ h. by (early k) (omega (arith, s.is_rule)) (ap opposite h.0 ∙ opposite_opposite a) (ap at (opposite_early k) ∙ h.1)) s.leads
+      ⊎_elim (λ h. by (late k) (omega (arith, s.is_rule)) (ap opposite h.0 ∙ opposite_opposite a) (ap at (other_first k) ∙ h.1))
+      (λ h. by (early k) (omega (arith, s.is_rule)) (ap opposite h.0 ∙ opposite_opposite a) (ap at (other_second k) ∙ h.1)) s.leads
     where
       at : ℕ → ℕ
       at i = get_or ws i 0

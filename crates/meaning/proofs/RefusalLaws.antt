@@ -10,15 +10,11 @@ use borrow.Author.Tests.{leb-false, ltb-false, eqb-false, le-leb, lt-leb, lt-ltb
 use lib.ListN.{length, get_or, take}
 use Rattle.meaning.specs.declared.refusal.Refusal.{Refusal}
 use Rattle.meaning.specs.declared.refusal.Refusal.TheVariants.{TooManyChoices, OddWords, TooManyRules, CodeTooHigh, WorkTooShort, AnswerTooShort, BookEnds, NumberTooLong, NumberPadded, BytesLeft, ValueTooHigh}
-use Rattle.meaning.specs.Refusals.{number_of, place_of, Due, refused, as_due, Check, check, first_of, first_over, over_check, list_checks, next_checks, list_due, next_due}
-use Rattle.meaning.specs.Rules.{rules, InRange}
+use Rattle.meaning.specs.Refusals.{number_of, place_of, Due, refused, as_due, Check, check, first_of, NoneApplies, Given, first_over, over_check, list_checks, next_checks, list_due, next_due}
+use Rattle.meaning.specs.Accepted.{Accepted}
+use Rattle.meaning.specs.Rules.{rules}
 use Rattle.meaning.specs.Sizes.{max_choices, max_rules, rota_needs, work_needs}
 use Rattle.meaning.proofs.General.{below_or_from}
-
--- no check of the list applies
-abbrev pub NoneApplies : List Check → Type 0
-NoneApplies [] = Unit {0}
-NoneApplies (check applies number place ∷ cs) = (applies ≡ false) × NoneApplies cs
 
 -- nothing is due, or a refusal, never both
 pub not_refused : (number place : ℕ) → Due.none ≡ refused number place → ⊥
@@ -34,13 +30,6 @@ none_applies (check false number place ∷ cs) e = (refl, none_applies cs e)
 pub applies_none : (cs : List Check) → NoneApplies cs → first_of cs ≡ Due.none
 applies_none [] h = refl
 applies_none (check applies number place ∷ cs) h = rw h.0 (applies_none cs h.1)
-
--- a refusal is due exactly if its condition holds and no earlier one does
-pub record Given (cs : List Check) (number place : ℕ) : Type 0 where
-  pub before : List Check
-  pub after : List Check
-  pub checks : cs ≡ before ++ check true number place ∷ after
-  pub earlier : NoneApplies before
 
 -- what is due was given
 pub due_given : (cs : List Check) (number place : ℕ) → first_of cs ≡ refused number place → Given cs number place
@@ -87,15 +76,6 @@ over_none limit (x ∷ xs) h i l = go (λ k. over_none limit xs k) (leb limit x)
     go rec true e i l = absurd (omega (arith, rw e at h))
     go rec false e zero l = leb-false limit x e
     go rec false e (suc i) l = rec (omega (arith, rw e at h)) i (omega arith)
-
--- a list that a call accepts
-pub record Accepted (n : ℕ) (ws : List ℕ) (area needs work : ℕ) : Type 0 where
-  pub choices : n ≤ max_choices
-  pub even : length ws ≡ 2 * rules ws
-  pub few : rules ws ≤ max_rules
-  pub room : needs ≤ area
-  pub space : work_needs n ws ≤ work
-  pub range : InRange n ws
 
 -- words that are not odd are two a rule
 even_of : (ws : List ℕ) → length ws % 2 ≢ 1 → length ws ≡ 2 * rules ws

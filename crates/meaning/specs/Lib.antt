@@ -6,5 +6,9 @@ pub mod Rotas
 pub mod Chains
 pub mod Sizes
 pub mod Refusals
+pub mod Accepted
 pub mod Promises
+pub mod Answers
+pub mod Outcomes
 pub mod Runs
+pub mod Visits

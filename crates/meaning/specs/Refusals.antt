@@ -1,5 +1,5 @@
 -- Refusals: their numbers and places, and which of them is due.
-use Rattle.std.specs.Prelude.{Result, Ok, Err, Bool, true, false, cond, List, [], ◌∷◌, ◌++◌, ℕ, suc, ◌*◌, ◌%◌, leb, ltb, eqb, length, take}
+use Rattle.std.specs.Prelude.{◌≡◌, Result, Ok, Err, Bool, true, false, cond, List, [], ◌∷◌, ◌++◌, ℕ, suc, ◌*◌, ◌%◌, leb, ltb, eqb, length, take}
 use Rattle.meaning.specs.Rules.{rules}
 use Rattle.meaning.specs.Sizes.{max_choices, max_rules, rota_needs, work_needs}
 use Rattle.meaning.specs.declared.refusal.Refusal.{Refusal}
@@ -55,6 +55,18 @@ abbrev pub first_of : List Check → Due
 first_of [] = none
 first_of (check true number place ∷ cs) = refused number place
 first_of (check false number place ∷ cs) = first_of cs
+
+-- no check of the list applies
+abbrev pub NoneApplies : List Check → Type 0
+NoneApplies [] = Unit {0}
+NoneApplies (check applies number place ∷ cs) = (applies ≡ false) × NoneApplies cs
+
+-- a refusal is given of checks in order: its condition holds, and no earlier one does
+pub record Given (cs : List Check) (number place : ℕ) : Type 0 where
+  pub before : List Check
+  pub after : List Check
+  pub checks : cs ≡ before ++ check true number place ∷ after
+  pub earlier : NoneApplies before
 
 -- the place of the first item that is limit or more, and the length where there is none
 abbrev pub first_over : ℕ → List ℕ → ℕ

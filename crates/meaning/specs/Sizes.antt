@@ -1,5 +1,5 @@
 -- Limits, and what the lent areas have to hold.
-use Rattle.std.specs.Prelude.{List, ◌++◌, ℕ, ◌+◌, ◌*◌, length, drop, replicate}
+use Rattle.std.specs.Prelude.{List, ◌++◌, ℕ, ◌+◌, ◌*◌, length, take, drop, replicate}
 use Rattle.meaning.specs.Rules.{rules}
 
 abbrev pub max_choices : ℕ
@@ -31,6 +31,10 @@ work_room = 14352
 -- an area with xs written at its front: what is past them stays
 abbrev pub over : List ℕ → List ℕ → List ℕ
 over xs area = xs ++ drop (length xs) area
+
+-- an area with xs written from the place `at` on: the rest stays
+abbrev pub over_at : ℕ → List ℕ → List ℕ → List ℕ
+over_at at xs area = take at area ++ over xs (drop at area)
 
 -- the work area after a call that is not refused: as many zeros as it needs, and the rest stays
 abbrev pub cleared : ℕ → List ℕ → List ℕ → List ℕ

@@ -1,4 +1,4 @@
-// What the five calls on a list answer where they do not refuse it. Enums of their own, and no Option or Result: that a list is
+// What the calls on a list answer where they do not refuse it. Enums of their own, and no Option or Result: that a list is
 // impossible is an answer and no failure, and the C face has a number for each case.
 use crate::codes::Choice;
 
@@ -33,4 +33,12 @@ pub enum Moved {
     Moved,
     Ended,
     Impossible,
+}
+
+// A visit of every rota: all were given, or the visitor stopped it with a value of its own, or none exists, since this choice clashes.
+#[derive(Clone, Copy, Debug, PartialEq, Eq)]
+pub enum Visited<B> {
+    All,
+    Stopped(B),
+    Impossible(Choice),
 }

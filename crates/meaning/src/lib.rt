@@ -7,7 +7,7 @@ mod codes; // the three kinds of count, and the code's own functions
 mod refusal; // what went wrong, and where
 mod rooms; // the areas of those who bring their own
 
-pub use answers::{Clashed, Decided, Listed, Moved};
+pub use answers::{Clashed, Decided, Listed, Moved, Visited};
 pub use codes::{Choice, Code, RuleNo};
 pub use refusal::Refusal;
 pub use rooms::{CHAINS_ROOM, ROTA_ROOM, WORDS_ROOM, WORK_ROOM};

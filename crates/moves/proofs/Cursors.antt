@@ -6,6 +6,7 @@ use Prim.Native.Nat.{ℕ, ◌+◌, ◌-◌, ◌*◌, ◌≤◌, ◌<◌}
 use native.Mathlib.Omega.{arith}
 use lib.ListN.{length, get_or}
 use Rattle.meaning.specs.Codes.{opposite}
+use Rattle.meaning.specs.Rules.{other_end}
 use Rattle.moves.specs.Layout.{head, next, Sizes}
 use Rattle.moves.specs.Lists.{FirstEnd, Nexts, Cursor, Passed, Ready}
 use Rattle.meaning.proofs.CodeLaws.{opposite_below}
@@ -62,7 +63,7 @@ module _ {n : ℕ} {ws W : List ℕ} {a e e' : ℕ} (nx : Nexts n ws W) (c : Cur
 
 -- the code at the other end of the end at a cursor
 pub other_code : {n : ℕ} {ws W : List ℕ} {a e k b : ℕ} →
-    Sizes n ws W → Cursor ws a e → 0 < e → k ≡ opposite (e - 1) → b ≡ get_or ws k 0 → (k < length ws) × (b < 2 * n)
+    Sizes n ws W → Cursor ws a e → 0 < e → k ≡ other_end (e - 1) → b ≡ get_or ws k 0 → (k < length ws) × (b < 2 * n)
 other_code {n} {ws} {W} {a} {e} {k} {b} s c p qk qb =
     let l : k < length ws = rw qk (other_end_below (e - 1) (length ws) s.even (omega (arith, (c.at p).0))) in
     (l, omega (arith, qb, word_below s k l))

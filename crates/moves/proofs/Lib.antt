@@ -12,3 +12,4 @@ pub mod Clearing
 pub mod Pressing
 pub mod Trying
 pub mod Moving
+pub mod Once

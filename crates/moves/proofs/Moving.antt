@@ -5,6 +5,7 @@ use Prim.Native.Nat.{ℕ, suc, ◌+◌, ◌-◌, ◌*◌, ◌≤◌, ◌<◌}
 use native.Mathlib.Omega.{arith}
 use lib.ListN.{length, get_or, set}
 use Rattle.meaning.specs.Codes.{opposite}
+use Rattle.meaning.specs.Rules.{other_end}
 use Rattle.moves.specs.Area.{Area, Sound, IsSound, Holds, Free, Same, Fresh, Begun, Touches, Visits, Spreads, Undoes}
 use Rattle.moves.specs.Layout.{spare_at, head, mark, trail, next, Apart}
 use Rattle.moves.specs.Trials.{Meets, Pulls, Presses, Tries}
@@ -60,17 +61,17 @@ pub along_end : {a : Area} {c v : ℕ} {b : Area} {k : ℕ} → Along a c v b (s
 along_end r = rw (r.same.list) (omega (arith, (r.visit.cur.at (omega arith)).0))
 
 -- and across it stands a code
-pub across_below : {b : Area} {k x : ℕ} → IsSound b → k < length b.rules → x ≡ get_or b.rules (opposite k) 0 → x < 2 * b.n
-across_below {b} {k} s l q = rw q (word_below s.ready.sizes (opposite k) (other_end_below k (length b.rules) s.ready.sizes.even l))
+pub across_below : {b : Area} {k x : ℕ} → IsSound b → k < length b.rules → x ≡ get_or b.rules (other_end k) 0 → x < 2 * b.n
+across_below {b} {k} s l q = rw q (word_below s.ready.sizes (other_end k) (other_end_below k (length b.rules) s.ready.sizes.even l))
 
 module _ {a : Area} {c v : ℕ} {b : Area} {k x : ℕ} {b' : Area} {e' : ℕ} (pv : 0 < v) (r : Along a c v b (suc k))
-    (q : x ≡ get_or b.rules (opposite k) 0) (d : Touches b x v b') (qe : e' ≡ next b'.n b'.words k) where
+    (q : x ≡ get_or b.rules (other_end k) 0) (d : Touches b x v b') (qe : e' ≡ next b'.n b'.words k) where
   -- the same of the first area
   touched : Touched a.n b.words x v b.tail b'.words b'.tail
   touched = rw (r.same.choices) at d.touched
 
   -- the code across
-  leads : x ≡ get_or a.rules (opposite (suc k - 1)) 0
+  leads : x ≡ get_or a.rules (other_end (suc k - 1)) 0
   leads =
       let z : suc k - 1 ≡ k = omega arith in
       rw z (rw (r.same.list) at q)
@@ -153,9 +154,9 @@ drawing_start s l q = record { same = same_refl s; start = s; pull = record { vi
 pub drawing_along : {a : Area} {c : ℕ} {b : Area} {e : ℕ} → Drawing a c b e → Along a c 1 b e
 drawing_along r = record { same = r.same; start = r.start; visit = r.pull.visit }
 
-module _ {a : Area} {c : ℕ} {b : Area} {k x : ℕ} (r : Drawing a c b (suc k)) (q : x ≡ get_or b.rules (opposite k) 0) where
+module _ {a : Area} {c : ℕ} {b : Area} {k x : ℕ} (r : Drawing a c b (suc k)) (q : x ≡ get_or b.rules (other_end k) 0) where
   -- the code across
-  across : x ≡ get_or a.rules (opposite (suc k - 1)) 0
+  across : x ≡ get_or a.rules (other_end (suc k - 1)) 0
   across =
       let z : suc k - 1 ≡ k = omega arith in
       rw z (rw (r.same.list) at q)

@@ -7,6 +7,7 @@ use native.Mathlib.Omega.{arith}
 use lib.ListN.{get_or}
 use Rattle.meaning.specs.Chains.{Step, Reach}
 use Rattle.meaning.specs.Codes.{opposite}
+use Rattle.meaning.specs.Rules.{other_end}
 use Rattle.moves.specs.Layout.{mark, trail, next, Tables, Sizes, Apart}
 use Rattle.moves.specs.Lists.{Ready}
 use Rattle.moves.specs.Trials.{Pulled, Pressed}
@@ -53,7 +54,7 @@ pub record Pulling (n : ℕ) (ws : List ℕ) (a : ℕ) (W₀ : List ℕ) (t₀ :
 
 -- a turn takes in the code at the other end, whose opposite has no mark
 pub pull_turn : {n : ℕ} {ws : List ℕ} {a : ℕ} {W₀ : List ℕ} {t₀ : ℕ} {W : List ℕ} {t e b : ℕ} {W' : List ℕ} {t' e' : ℕ} →
-    Ready n ws W₀ → Pulling n ws a W₀ t₀ W t e → 0 < e → b < 2 * n → b ≡ get_or ws (opposite (e - 1)) 0 →
+    Ready n ws W₀ → Pulling n ws a W₀ t₀ W t e → 0 < e → b < 2 * n → b ≡ get_or ws (other_end (e - 1)) 0 →
     Touched n W b 1 t W' t' × (mark n W b ≡ 0 → mark n W (opposite b) ≡ 0) → e' ≡ next n W' (e - 1) → Pulling n ws a W₀ t₀ W' t' e'
 pull_turn rd r p lb qb d qe =
     record {
@@ -74,7 +75,7 @@ pull_done s r z = (pulled r, visit_all s r.visit z)
 
 -- or the loop stops at a code whose opposite has one
 pub pull_stop : {n : ℕ} {ws : List ℕ} {a : ℕ} {W₀ : List ℕ} {t₀ : ℕ} {W : List ℕ} {t e b x : ℕ} {W' : List ℕ} {t' : ℕ} →
-    Sizes n ws W₀ → Pulling n ws a W₀ t₀ W t e → 0 < e → b ≡ get_or ws (opposite (e - 1)) 0 → (x ≡ b) × (t' ≡ t) × (W' ≡ W) × (0 < mark n W (opposite b)) →
+    Sizes n ws W₀ → Pulling n ws a W₀ t₀ W t e → 0 < e → b ≡ get_or ws (other_end (e - 1)) 0 → (x ≡ b) × (t' ≡ t) × (W' ≡ W) × (0 < mark n W (opposite b)) →
     Pulled n ws a W₀ t₀ W' t' × ((k : ℕ) × Step ws a k x) × (0 < mark n W' (opposite x))
 pull_stop {n} {ws} {a} {W₀} {t₀} {W} {t} {e} {b} {x} {W'} {t'} s r p qb d =
     rw (d.0, d.1, d.2) (pulled r, ((e - 1) / 2, end_step s (omega (arith, (r.visit.cur.at p).0)) (r.visit.cur.at p).1 qb), d.3)

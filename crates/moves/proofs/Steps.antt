@@ -7,15 +7,16 @@ use native.Mathlib.Omega.{arith}
 use lib.ListN.{length, get_or}
 use Rattle.meaning.specs.Chains.{Step}
 use Rattle.meaning.specs.Codes.{late, early, opposite}
+use Rattle.meaning.specs.Rules.{other_end}
 use Rattle.moves.specs.Layout.{Sizes}
 use Rattle.meaning.proofs.ChainLaws.{step_flip}
 use Rattle.meaning.proofs.ChainLength.{step_below}
-use Rattle.meaning.proofs.CodeLaws.{opposite_opposite, opposite_below, opposite_late, opposite_early, late_or_early}
-use Rattle.meaning.proofs.Reaching.{fro, to, edge_step}
+use Rattle.meaning.proofs.CodeLaws.{opposite_opposite, opposite_below, late_or_early}
+use Rattle.meaning.proofs.Reaching.{other_first, other_second, fro, to, edge_step}
 
 -- the other end of a rule is among the words
-pub other_end_below : (e m : ℕ) → m % 2 ≡ 0 → e < m → opposite e < m
-unfolding opposite
+pub other_end_below : (e m : ℕ) → m % 2 ≡ 0 → e < m → other_end e < m
+unfolding other_end
 other_end_below e m even l = omega arith
 
 -- each word is a code
@@ -27,19 +28,19 @@ word_below {n} {ws} s e l =
 
 module _ {n : ℕ} {ws W : List ℕ} (s : Sizes n ws W) where
   -- an end that holds the opposite of a is a step from a to the code at the other end
-  pub end_step : {a b e : ℕ} → e < length ws → get_or ws e 0 ≡ opposite a → b ≡ get_or ws (opposite e) 0 → Step ws a (e / 2) b
+  pub end_step : {a b e : ℕ} → e < length ws → get_or ws e 0 ≡ opposite a → b ≡ get_or ws (other_end e) 0 → Step ws a (e / 2) b
   unfolding fro to
   end_step {a} {b} {e} l holds leads =
       let back : opposite (get_or ws e 0) ≡ a = ap opposite holds ∙ opposite_opposite a in
-      let st : Step ws (opposite (get_or ws e 0)) (e / 2) (get_or ws (opposite e) 0) = edge_step ws e (omega (arith, s.even)) in
+      let st : Step ws (opposite (get_or ws e 0)) (e / 2) (get_or ws (other_end e) 0) = edge_step ws e (omega (arith, s.even)) in
       rw leads (rw back at st)
 
   -- a step has such an end, of its own rule
-  pub step_end : {a k b : ℕ} → Step ws a k b → (e : ℕ) × (e < length ws) × (get_or ws e 0 ≡ opposite a) × (get_or ws (opposite e) 0 ≡ b) × (e / 2 ≡ k)
+  pub step_end : {a k b : ℕ} → Step ws a k b → (e : ℕ) × (e < length ws) × (get_or ws e 0 ≡ opposite a) × (get_or ws (other_end e) 0 ≡ b) × (e / 2 ≡ k)
   step_end {a} {k} {b} st =
       ⊎_elim
-      (λ h. (late k, omega (arith, st.is_rule, s.even), h.0, ap (λ (i : ℕ). get_or ws i 0) (opposite_late k) ∙ h.1, omega arith))
-      (λ h. (early k, omega (arith, st.is_rule, s.even), h.0, ap (λ (i : ℕ). get_or ws i 0) (opposite_early k) ∙ h.1, omega arith))
+      (λ h. (late k, omega (arith, st.is_rule, s.even), h.0, ap (λ (i : ℕ). get_or ws i 0) (other_first k) ∙ h.1, omega arith))
+      (λ h. (early k, omega (arith, st.is_rule, s.even), h.0, ap (λ (i : ℕ). get_or ws i 0) (other_second k) ∙ h.1, omega arith))
       st.leads
 
   -- a step leads to a code

@@ -7,6 +7,7 @@ use native.Mathlib.Omega.{arith}
 use lib.ListN.{length, get_or, set, length-set}
 use Rattle.meaning.specs.Chains.{Step}
 use Rattle.meaning.specs.Codes.{opposite}
+use Rattle.meaning.specs.Rules.{other_end}
 use Rattle.moves.specs.Layout.{mark_at, trail_at, head, mark, trail, next, Tables, Sizes, Apart}
 use Rattle.moves.specs.Lists.{Cursor, Passed, Ready}
 use Rattle.moves.specs.Walks.{OntoTrail, Listed, Touched, Visited}
@@ -81,7 +82,7 @@ pub record Visiting (n : ℕ) (ws : List ℕ) (a v : ℕ) (W₀ : List ℕ) (t�
   pub onto : OntoTrail n W₀ t₀ W t
   pub new : (i : ℕ) → t₀ ≤ i → i < t → ((k : ℕ) × Step ws a k (trail n W i)) × (mark n W (trail n W i) ≡ v)
   pub cur : Cursor ws a e
-  pub seen : (k : ℕ) → k < length ws → get_or ws k 0 ≡ opposite a → Passed e k → 0 < mark n W (get_or ws (opposite k) 0)
+  pub seen : (k : ℕ) → k < length ws → get_or ws k 0 ≡ opposite a → Passed e k → 0 < mark n W (get_or ws (other_end k) 0)
 
 -- at its start nothing is new
 pub visit_start : {n : ℕ} {ws W : List ℕ} {t a v e : ℕ} →
@@ -98,7 +99,7 @@ visit_start {n} {ws} {W} {t} {a} {v} {e} rd r la qe =
 
 -- a turn touches the code at the other end, and goes on in the list
 pub visit_turn : {n : ℕ} {ws : List ℕ} {a v : ℕ} {W₀ : List ℕ} {t₀ : ℕ} {W : List ℕ} {t e b : ℕ} {W' : List ℕ} {t' e' : ℕ} →
-    Ready n ws W₀ → 0 < v → Visiting n ws a v W₀ t₀ W t e → 0 < e → b ≡ get_or ws (opposite (e - 1)) 0 → Touched n W b v t W' t' → e' ≡ next n W' (e - 1) →
+    Ready n ws W₀ → 0 < v → Visiting n ws a v W₀ t₀ W t e → 0 < e → b ≡ get_or ws (other_end (e - 1)) 0 → Touched n W b v t W' t' → e' ≡ next n W' (e - 1) →
     Visiting n ws a v W₀ t₀ W' t' e'
 visit_turn {n} {ws} {a} {v} {W₀} {t₀} {W} {t} {e} {b} {W'} {t'} {e'} rd pv r p qb d qe =
     let s = rd.sizes in
@@ -122,13 +123,13 @@ visit_turn {n} {ws} {a} {v} {W₀} {t₀} {W} {t} {e} {b} {W'} {t'} {e'} rd pv r
           (λ (z : k ≡ e - 1). rw (z, ← qb) g.has)
           (λ (z : Passed e k).
           let before = r.seen k l h z in
-          omega (arith, before, g.onto.kept (get_or ws (opposite k) 0) (word_below s (opposite k) (other_end_below k (length ws) s.even l)) before))
+          omega (arith, before, g.onto.kept (get_or ws (other_end k) 0) (word_below s (other_end k) (other_end_below k (length ws) s.even l)) before))
           (cursor_passed (nexts_of rd) r.cur p q k l h u);
     }
 
 -- a turn leaves less of it
 pub visit_less : {n : ℕ} {ws : List ℕ} {a v : ℕ} {W₀ : List ℕ} {t₀ : ℕ} {W : List ℕ} {t e b : ℕ} {W' : List ℕ} {t' e' : ℕ} →
-    Ready n ws W₀ → 0 < v → Visiting n ws a v W₀ t₀ W t e → 0 < e → b ≡ get_or ws (opposite (e - 1)) 0 → Touched n W b v t W' t' → e' ≡ next n W' (e - 1) →
+    Ready n ws W₀ → 0 < v → Visiting n ws a v W₀ t₀ W t e → 0 < e → b ≡ get_or ws (other_end (e - 1)) 0 → Touched n W b v t W' t' → e' ≡ next n W' (e - 1) →
     left_of e' < left_of e
 visit_less {e = e} rd pv r p qb d qe = cursor_less (nexts_of rd) r.cur p (qe ∙ (visit_turn rd pv r p qb d qe).apart.nexts (e - 1)) rd.sizes
 

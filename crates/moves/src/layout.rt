@@ -62,18 +62,33 @@ pub fn set_trail(n: usize, work: &mut [u16], i: usize, x: Code)
     work[4 * n + i] = x.0;
 }
 
+// The word at place p of the spare table: the walk of the components keeps places there, and the moves a word for each code.
+pub fn spare_word(n: usize, work: &[u16], p: usize) -> u16
+    requires { (p < 2 * n) × Tables n work.now }
+    ensures { result ≡ spare n work.now p }
+{
+    work[6 * n + p]
+}
+
+pub fn set_spare_word(n: usize, work: &mut [u16], p: usize, v: u16)
+    requires { (p < 2 * n) × Tables n work.old }
+    ensures { work.new ≡ set work.old (spare_at n p) v }
+{
+    work[6 * n + p] = v;
+}
+
 pub fn spare_of(n: usize, work: &[u16], x: Code) -> u16
     requires { (x.0 < 2 * n) × Tables n work.now }
     ensures { result ≡ spare n work.now x.0 }
 {
-    work[6 * n + usize::from(x)]
+    spare_word(n, work, usize::from(x))
 }
 
 pub fn set_spare(n: usize, work: &mut [u16], x: Code, v: u16)
     requires { (x.0 < 2 * n) × Tables n work.old }
     ensures { work.new ≡ set work.old (spare_at n x.0) v }
 {
-    work[6 * n + usize::from(x)] = v;
+    set_spare_word(n, work, usize::from(x), v);
 }
 
 // One more than the next end after e that holds e's code, or 0.

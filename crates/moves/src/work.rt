@@ -2,7 +2,7 @@
 // linked in the area, and the trail holds the codes that have a mark. That a code is one of the list's is asked for by clause: a `Code`
 // knows no list, and a type with the bound would have to carry n.
 ghost use Rattle.std.specs.Prelude.{◌≡◌, ◌*◌, ◌<◌, length, get_or};
-ghost use Rattle.meaning.specs.Codes.{opposite};
+ghost use Rattle.meaning.specs.Rules.{other_end};
 ghost use Rattle.moves.specs.Layout.{Sizes, head, mark, trail, spare, next};
 ghost use Rattle.moves.specs.Area.{IsSound, Sound, Begun, Writes, link_of};
 
@@ -150,7 +150,7 @@ impl<'a> Work<'a> {
     // The code at the other end of the same rule.
     pub fn across(&self, end: usize) -> Code
         requires { end < length self.now.rules }
-        ensures { result.0 ≡ get_or self.now.rules (opposite end) 0 }
+        ensures { result.0 ≡ get_or self.now.rules (other_end end) 0 }
     {
         code_at(self.rules, other_end(end))
     }

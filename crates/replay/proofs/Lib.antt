@@ -2,3 +2,4 @@
 pub mod Replaying
 pub mod Turning
 pub mod Passing
+pub mod Once

@@ -4,7 +4,7 @@ ghost use Rattle.replay.specs.Replay.{Begins, Forgets, Finds};
 
 use crate::follow::replay;
 use crate::retreat::retreat;
-use meaning::{Choice, Code, Moved};
+use meaning::{Code, Moved};
 use moves::work::Work;
 use search::first::search;
 
@@ -26,13 +26,13 @@ pub fn find_next(work: &mut Work<'_>, rota: &[u8]) -> Moved
     let raised = retreat(work, rota, top);
     forget(work);
     if let Some(v) = raised {
-        return match search(work, Choice(v.0 + 1)) {
+        return match search(work, usize::from(v) + 1) {
             Ok(()) => Moved::Moved,
             Err(_) => Moved::Impossible,
         };
     }
     work.undo_to(0);
-    match search(work, Choice(0)) {
+    match search(work, 0) {
         Ok(()) => Moved::Ended,
         Err(_) => Moved::Impossible,
     }

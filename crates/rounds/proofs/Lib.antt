@@ -2,3 +2,4 @@
 pub mod Rounds
 pub mod Forcing
 pub mod Sweeping
+pub mod Once

@@ -4,3 +4,4 @@ pub mod Searching
 pub mod Noting
 pub mod Settling
 pub mod Writing
+pub mod Once

@@ -8,16 +8,15 @@ use crate::settle::settle;
 use meaning::Choice;
 use moves::work::Work;
 
-// Settles the choices from `from` on in turn, or tells which is stuck.
-pub fn search(work: &mut Work<'_>, from: Choice) -> Result<(), Choice>
+// Settles the choices in turn, of which the first `from` are settled, or tells which is stuck.
+pub fn search(work: &mut Work<'_>, from: usize) -> Result<(), Choice>
     requires state { Stands work.old }
-    requires from_le_n { from.0 ≤ work.old.n }
-    ensures { Searches work.old from.0 work.new result }
+    requires from_le_n { from ≤ work.old.n }
+    ensures { Searches work.old from work.new result }
 {
-    let start = from.0;
-    let n = work.choices() as u16;
-    for v in start..n {
-        settle(work, Choice(v))?;
+    let n = work.choices();
+    for v in from..n {
+        settle(work, Choice(v as u16))?;
     }
     Ok(())
 }

@@ -3,11 +3,15 @@ use mathlib.Core.Path.{◌≡◌, refl, sym, ap₂}
 use mathlib.Core.List.{List, [], ◌∷◌}
 use Prim.Native.Nat.{ℕ}
 use native.Mathlib.Decide.{ℕ_discrete, dec_le, dec_lt}
-use lib.ListN.{get_or}
+use lib.ListN.{length, get_or}
+use Rattle.meaning.specs.Chains.{Tie}
 use Rattle.meaning.specs.Codes.{late, early, opposite}
+use Rattle.meaning.specs.Rules.{other_end}
+use Rattle.meaning.specs.Promises.{Each}
 use Rattle.meaning.specs.Refusals.{Due, refused, list_due}
+use Rattle.meaning.specs.Rotas.{Forced}
 use Rattle.meaning.specs.Runs.{Follow, InOrder}
-use Rattle.table.specs.Table.{Answer, possible, impossible, refusal, Asked, least_due, Right, Case, case_a, case_b, case_c, case_d, case_f, case_g, case_i, case_j, cases, Every}
+use Rattle.table.specs.Table.{Answer, possible, impossible, refusal, Asked, least_due, Right, Case, case_a, case_b, case_c, case_d, case_e, case_f, case_g, case_h, case_i, case_j, cases, Every}
 use Rattle.meaning.proofs.ChainLaws.{clash_impossible}
 use Rattle.meaning.proofs.RefusalLaws.{not_refused}
 use Rattle.meaning.proofs.Reaching.{reach?}
@@ -44,6 +48,11 @@ abbrev asked? : (n : ℕ) (ws : List ℕ) (qs : List (List ℕ × List ℕ)) →
 asked? n ws [] = yes tt
 asked? n ws (q ∷ qs) = and? (next? n ws q.0 q.1) (asked? n ws qs)
 
+-- whether the items of a list are those of the choices, and as many
+abbrev each? : (n : ℕ) (Item : ℕ → ℕ → Type 0) (xs : List ℕ) → ((v x : ℕ) → Dec (Item v x)) → Dec (Each n Item xs)
+each? n Item xs item =
+    map? (λ p. record { long = p.0; each = p.1 }) (λ e. (e.long, e.each)) (and? (ℕ_discrete (length xs) n) (below? n (λ v. item v (get_or xs v 0))))
+
 -- whether a case is right
 abbrev right? : (n : ℕ) (ws : List ℕ) (a : Answer) → Dec (Right n ws a)
 right? n ws (possible rs fs ts qs) =
@@ -51,7 +60,7 @@ right? n ws (possible rs fs ts qs) =
     (and? (none? (least_due n ws))
     (and? (in_order? n ws rs)
     (and? (below? n (λ v. not? (clash? ws v)))
-    (and? (below? n (λ v. forced? n ws v (get_or fs v 3))) (and? (below? n (λ v. tie? ws v (get_or ts v 0))) (asked? n ws qs))))))
+    (and? (each? n (Forced n ws) fs (λ v x. forced? n ws v x)) (and? (each? n (Tie ws) ts (λ v x. tie? ws v x)) (asked? n ws qs))))))
 right? n ws (impossible v ks js) =
     map? (λ p. (p.0, p.1.0, p.1.1.0, p.1.1.1, clash_impossible n ws v p.1.0.clash)) (λ p. (p.0, (p.1, (p.2, p.3))))
     (and? (none? (least_due n ws)) (and? (lowest? ws v) (and? (shortest? ws (early v) (late v) ks) (shortest? ws (late v) (early v) js))))
@@ -64,7 +73,7 @@ every? (c ∷ cs) = and? (right? c.n c.ws c.answer) (every? cs)
 
 -- cases A to K
 pub marked : Every cases
-unfolding ℕ_discrete dec_le dec_lt opposite reach? clash? list_due
+unfolding ℕ_discrete dec_le dec_lt opposite other_end reach? clash? list_due
 marked = shown (every? cases) tt
 
 -- and each of them alone
@@ -80,11 +89,17 @@ right_c = marked.1.1.0
 pub right_d : Right case_d.n case_d.ws case_d.answer
 right_d = marked.1.1.1.0
 
+pub right_e : Right case_e.n case_e.ws case_e.answer
+right_e = marked.1.1.1.1.0
+
 pub right_f : Right case_f.n case_f.ws case_f.answer
 right_f = marked.1.1.1.1.1.0
 
 pub right_g : Right case_g.n case_g.ws case_g.answer
 right_g = marked.1.1.1.1.1.1.0
+
+pub right_h : Right case_h.n case_h.ws case_h.answer
+right_h = marked.1.1.1.1.1.1.1.0
 
 pub right_i : Right case_i.n case_i.ws case_i.answer
 right_i = marked.1.1.1.1.1.1.1.1.0

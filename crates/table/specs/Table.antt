@@ -1,8 +1,9 @@
 -- The marked table, cases A to K: what is to be answered, and when an answer is right by the definitions. proofs/Marked proves every case.
-use Rattle.std.specs.Prelude.{◌≡◌, List, [], ◌∷◌, ℕ, ◌<◌, get_or}
+use Rattle.std.specs.Prelude.{◌≡◌, List, [], ◌∷◌, ℕ, ◌<◌}
 use Rattle.meaning.specs.Codes.{late, early}
 use Rattle.meaning.specs.Rotas.{Impossible, Next, Forced}
 use Rattle.meaning.specs.Chains.{Clash, LowestClash, Shortest, Tie}
+use Rattle.meaning.specs.Promises.{Each}
 use Rattle.meaning.specs.Runs.{InOrder}
 use Rattle.meaning.specs.Sizes.{rota_needs, work_needs}
 use Rattle.meaning.specs.Refusals.{Due, none, refused, list_due}
@@ -28,8 +29,8 @@ Right n ws (possible rs fs ts qs) =
     (least_due n ws ≡ none)
     × InOrder n ws rs
     × ((v : ℕ) → v < n → Clash ws v → ⊥)
-    × ((v : ℕ) → v < n → Forced n ws v (get_or fs v 3))
-    × ((v : ℕ) → v < n → Tie ws v (get_or ts v 0))
+    × Each n (Forced n ws) fs
+    × Each n (Tie ws) ts
     × Asked n ws qs
 Right n ws (impossible v ks js) =
     (least_due n ws ≡ none) × LowestClash ws v × Shortest ws (late v) (early v) ks × Shortest ws (early v) (late v) js × Impossible n ws

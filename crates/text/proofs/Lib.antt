@@ -4,3 +4,4 @@ pub mod Spelling
 pub mod Looping
 pub mod Lengths
 pub mod WrittenOut
+pub mod Once

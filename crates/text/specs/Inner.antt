@@ -1,6 +1,6 @@
 -- What the writers leave, each its bytes at a place of the area. Nobody has to believe these: the promise of the whole is proved from them.
 use Rattle.std.specs.Prelude.{◌≡◌, List, ℕ, ◌+◌, ◌≤◌, length}
-use Rattle.meaning.proofs.AreaLaws.{over_at}
+use Rattle.meaning.specs.Sizes.{over_at}
 use Rattle.text.specs.declared.fields.Text.{Text}
 
 -- there is room for the bytes at the place

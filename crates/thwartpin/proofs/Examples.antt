@@ -13,12 +13,14 @@ use Rattle.meaning.specs.declared.refusal.Refusal.TheVariants.{CodeTooHigh, Book
 use Rattle.meaning.specs.Refusals.{list_due, next_due}
 use Rattle.meaning.specs.Sizes.{cleared, work_room}
 use Rattle.table.specs.Table.{case_f, case_g, case_i, case_j, case_k}
-use Rattle.table.proofs.Examples.{decide_k, force_j, tie_f, clash_g, move_i}
+use Rattle.table.proofs.Examples.{decide_k, force_j, tie_f, clash_g, move_i, lists_b}
 use Rattle.table.proofs.Marked.{right_b}
 use Rattle.book.specs.Checks.{book_due}
 use Rattle.numbers.specs.Numbers.{number_or, values_or, decided_number, decided_values, listed_number, listed_values, clashed_number, clashed_values, moved_number, moved_values, read_number, read_values, host_decided, host_moved}
 use Rattle.thwartpin.specs.Lists.{areas, TellsDecided, TellsForced, TellsClash, TellsMoved, TellsTies, TellsRead}
 use Rattle.thwartpin.specs.Hosts.{HostDecides, HostMoves}
+use Rattle.thwartpin.specs.Runs.{HostGives, ListGives}
+use Rattle.thwartpin.proofs.EveryRota.{host_gives, list_gives}
 
 -- the number and the values of an answer of each call, and of a refusal
 pub numbers : (number_or decided_number (Ok (Decided.Impossible (record { 0 = 5 }))) ≡ 100)
@@ -92,3 +94,11 @@ host_next =
       kept = record { refuses = refl; after = record { items = 1 ∷ []; right = right_b.1.1.0; written = refl; zeros = refl } };
       numbered = refl;
     })
+
+-- GivesEveryRota, GoesThrough, Handed, HostGives: the book of case B gives the rotas 0 and 1 of `lists_b`. ListGives, ListDecides, ListMoves: and so does its list
+pub host_gives_b : HostGives (1 ∷ 0 ∷ [])
+unfolding book_due
+host_gives_b = host_gives (1 ∷ 0 ∷ []) refl lists_b
+
+pub list_gives_b : ListGives 1 []
+list_gives_b = list_gives 1 [] lists_b

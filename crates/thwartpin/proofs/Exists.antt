@@ -17,7 +17,8 @@ use Rattle.thwartpin.specs.Lists.{Areas, areas, Tells, On, TellsDecided, TellsFo
 use Rattle.numbers.specs.Numbers.{out_needs, out_short, number_or, values_or, decided_number, decided_values, listed_number, listed_values, clashed_number, clashed_values, moved_number, moved_values, read_number, read_values, host_decided, host_moved}
 use Rattle.book.proofs.Outcomes.{reads_exists}
 use Rattle.meaning.proofs.General.{below_or_from}
-use Rattle.meaning.proofs.Outcomes.{Outcome, decides_exists, forces_exists, ties_exists, clashes_exists, moves_exists}
+use Rattle.meaning.specs.Outcomes.{Outcome}
+use Rattle.meaning.proofs.Outcomes.{decides_exists, forces_exists, ties_exists, clashes_exists, moves_exists}
 use Rattle.thwartpin.proofs.Hosting.{fresh, turned}
 use Rattle.thwartpin.proofs.Telling.{untold, told}
 

@@ -4,4 +4,6 @@ pub mod Hosting
 pub mod Once
 pub mod Exists
 pub mod Staying
+pub mod EveryRota
+pub mod OwnCalls
 pub mod Examples

@@ -17,7 +17,8 @@ use Rattle.thwartpin.specs.Lists.{Areas, areas, Tells, On, TellsDecided, TellsFo
 use Rattle.numbers.specs.Numbers.{number_or, values_or, decided_number, decided_values, listed_number, listed_values, clashed_number, clashed_values, moved_number, moved_values, read_number, read_values, host_decided, host_moved}
 use Rattle.book.proofs.Outcomes.{reads_once}
 use Rattle.meaning.proofs.RefusalLaws.{not_refused}
-use Rattle.meaning.proofs.Once.{Same, decides_once, forces_once, ties_once, clashes_once, moves_once}
+use Rattle.meaning.specs.Outcomes.{Same}
+use Rattle.meaning.proofs.Once.{decides_once, forces_once, ties_once, clashes_once, moves_once}
 
 -- The form that the calls with `out` share: where the promise fixes the answer and the areas, it fixes the number and out too.
 module _ {A S : Type 0} (number : A → ℕ) (values : A → List ℕ) (keeps : Result A Refusal → S → Type 0) (once : (a b : Result A Refusal) (s t : S) → keeps a s → keeps b t → (a ≡ b) × (s ≡ t))

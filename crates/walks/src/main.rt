@@ -1,12 +1,10 @@
-// Lists all rotas of the marked cases A to J, and of a list of twelve choices: the first by Decide, the others by Next until it ends.
+// Lists all rotas of the marked cases A to J, and of a list of twelve choices.
 #![tactic(auto)]
 
-use engine::{decide, next};
-use meaning::{Decided, Moved};
+use engine::each_rota;
+use meaning::Visited;
+use std::ops::ControlFlow;
 use std::{fmt, io};
-
-// No list here has more rotas.
-const MOST: usize = 1000;
 
 // No list here has more choices, or needs more words of work.
 const CHOICES: usize = 12;
@@ -45,26 +43,7 @@ impl fmt::Display for Rota<'_> {
     }
 }
 
-// The rotas after the first, or the word for why there is no other.
-fn go_on(
-    rt: &impl Print,
-    n: usize,
-    words: &[u16],
-    rota: &mut [u8],
-    work: &mut [u16],
-) -> io::Result<()> {
-    for _ in 0..MOST {
-        println!(rt; "{}", Rota(rota))?;
-        match next(n, words, rota, work) {
-            Ok(Moved::Moved) => {}
-            Ok(Moved::Ended) => return println!(rt; "ended"),
-            Ok(Moved::Impossible) => return println!(rt; "impossible"),
-            Err(_) => return println!(rt; "refused"),
-        }
-    }
-    Ok(())
-}
-
+// Prints each rota, and then how that ended.
 fn walk(
     rt: &impl Print,
     n: usize,
@@ -72,9 +51,14 @@ fn walk(
     rota: &mut [u8],
     work: &mut [u16],
 ) -> io::Result<()> {
-    match decide(n, words, rota, work) {
-        Ok(Decided::Possible) => go_on(rt, n, words, rota, work),
-        Ok(Decided::Impossible(choice)) => println!(rt; "impossible {}", choice.0),
+    let mut show = |rota: &[u8]| match println!(rt; "{}", Rota(rota)) {
+        Ok(()) => ControlFlow::Continue(()),
+        Err(error) => ControlFlow::Break(error),
+    };
+    match each_rota(n, words, rota, work, &mut show) {
+        Ok(Visited::All) => println!(rt; "ended"),
+        Ok(Visited::Stopped(error)) => Err(error),
+        Ok(Visited::Impossible(choice)) => println!(rt; "impossible {}", choice.0),
         Err(_) => println!(rt; "refused"),
     }
 }

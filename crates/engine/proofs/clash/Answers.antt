@@ -10,21 +10,21 @@ use Rattle.engine.proofs.clash.Goals.{in-Ok, in-Err}
 
 pub returns-in_err-used : goal.returns-in_err-used
 returns-in_err-used c =
-    refuses _ _ _ _ _ _ _ c.in_err-used.field-0.0 (c.in_err-used.ensures.due ∙ due_needs _ _ _ _ _ _ c.chains_need.ensures) c.from_residual.ensures.1
+    refuses _ _ _ _ _ _ _ c.in_err-used.field-0.0 (c.in_err-used.ensures.due ∙ due_needs _ _ _ _ _ _ c.chains_need.ensures.need) c.from_residual.ensures.1
 
 pub new-state-requires : goal.new-state-requires
 new-state-requires c = front_sizes _ _ _ _ c.in_ok-used.ensures.used _ _ (accepted _ _ _ _ _ (sym c.in_ok-used.ensures.due))
 
 pub chain-there-requires-clause-c_bound : goal.chain-there-requires-clause-c_bound
 chain-there-requires-clause-c_bound c =
-    let accepts = accepted _ _ _ _ _ (sym (c.in_ok-used.ensures.due ∙ due_needs _ _ _ _ _ _ c.chains_need.ensures)) in
+    let accepts = accepted _ _ _ _ _ (sym (c.in_ok-used.ensures.due ∙ due_needs _ _ _ _ _ _ c.chains_need.ensures.need)) in
     let few = accepts.choices in
     late_chains few c.new-state.ensures c.in-Err.ensures c.undo_to.ensures _
     (is_late few c.new-state.ensures c.in-Err.ensures c.undo_to.ensures _ c.of.ensures) accepts.room
 
 pub chain-back-requires-clause-c_bound : goal.chain-back-requires-clause-c_bound
 chain-back-requires-clause-c_bound c =
-    let accepts = accepted _ _ _ _ _ (sym (c.in_ok-used.ensures.due ∙ due_needs _ _ _ _ _ _ c.chains_need.ensures)) in
+    let accepts = accepted _ _ _ _ _ (sym (c.in_ok-used.ensures.due ∙ due_needs _ _ _ _ _ _ c.chains_need.ensures.need)) in
     let few = accepts.choices in
     early_chains few c.new-state.ensures c.in-Err.ensures c.undo_to.ensures _
     (is_late few c.new-state.ensures c.in-Err.ensures c.undo_to.ensures _ c.of.ensures) accepts.room c.chain-there.ensures _
@@ -32,7 +32,7 @@ chain-back-requires-clause-c_bound c =
 
 pub returns : goal.returns
 returns c =
-    let fine = c.in_ok-used.ensures.due ∙ due_needs _ _ _ _ _ _ c.chains_need.ensures in
+    let fine = c.in_ok-used.ensures.due ∙ due_needs _ _ _ _ _ _ c.chains_need.ensures.need in
     let accepts = accepted _ _ _ _ _ (sym fine) in
     let few = accepts.choices in
     let long = c.match-search.auto.front in

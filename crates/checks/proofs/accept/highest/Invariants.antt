@@ -1,5 +1,5 @@
-use Rattle.std.proofs.Common.{ℕ, ◌≤◌, ◌<◌, get_or}
+use Rattle.checks.proofs.Finding.{Finding}
 use Rattle.checks.proofs.accept.highest.Given as goal
 
 abbrev pub invariant-loop-word : goal.invariant-loop-word
-invariant-loop-word l = (j : ℕ) → j < l.word-index → get_or l.words j 0 ≤ l.top
+invariant-loop-word l = Finding l.words l.word-index l.top

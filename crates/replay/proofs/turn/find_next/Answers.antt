@@ -12,20 +12,20 @@ search-requires c = let rota = take c.args.work.now.n c.args.rota.now in
     let found = rw c.in-Some.is at t in
     record {
       state = finds_start c.requires.by_index.1 c.replay-top.ensures found c.forget.ensures;
-      from_le_n = finds_within c.requires.by_index.1 c.replay-top.ensures found c.forget.ensures;
+      from_le_n = rw c.from.ensures (finds_within c.requires.by_index.1 c.replay-top.ensures found c.forget.ensures);
     }
 
 pub returns-in-Ok : goal.returns-in-Ok
 returns-in-Ok c = let rota = take c.args.work.now.n c.args.rota.now in
     let t : Retreats c.replay-top.new.work rota c.retreat-raised.new.work c.retreat-raised.result = subst (λ (m : ℕ). Retreats c.replay-top.new.work (take m c.args.rota.now) c.retreat-raised.new.work c.retreat-raised.result) c.replay-top.ensures.same.choices c.retreat-raised.ensures in
     let found = rw c.in-Some.is at t in
-    finds_moved c.requires.by_index.1 c.replay-top.ensures found c.forget.ensures c.in-Ok.ensures
+    finds_moved c.requires.by_index.1 c.replay-top.ensures found c.forget.ensures (rw c.from.ensures at c.in-Ok.ensures)
 
 pub returns-in-Err : goal.returns-in-Err
 returns-in-Err c = let rota = take c.args.work.now.n c.args.rota.now in
     let t : Retreats c.replay-top.new.work rota c.retreat-raised.new.work c.retreat-raised.result = subst (λ (m : ℕ). Retreats c.replay-top.new.work (take m c.args.rota.now) c.retreat-raised.new.work c.retreat-raised.result) c.replay-top.ensures.same.choices c.retreat-raised.ensures in
     let found = rw c.in-Some.is at t in
-    finds_stuck c.requires.by_index.1 c.replay-top.ensures found c.forget.ensures c.in-Err.ensures
+    finds_stuck c.requires.by_index.1 c.replay-top.ensures found c.forget.ensures (rw c.from.ensures at c.in-Err.ensures)
 
 pub returns-in-Ok-search : goal.returns-in-Ok-search
 returns-in-Ok-search c = let rota = take c.args.work.now.n c.args.rota.now in

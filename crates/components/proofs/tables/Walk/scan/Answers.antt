@@ -4,7 +4,7 @@ use mathlib.Core.Path.{◌≡◌, refl, sym, ap, ◌∙◌}
 use mathlib.Core.Logic.{inl, inr, ⊎_elim}
 use native.Mathlib.Omega.{arith}
 use lib.ListN.{get_or}
-use Rattle.meaning.specs.Codes.{opposite}
+use Rattle.meaning.specs.Rules.{other_end}
 use Rattle.components.proofs.Looking.{scan_turn, scan_hit, least_of_two}
 use Rattle.moves.proofs.Cursors.{other_code}
 use Rattle.moves.specs.Layout.{next}
@@ -13,24 +13,24 @@ use Rattle.components.proofs.tables.Walk.scan.Goals as goal
 pub led_to-z-requires : goal.led_to-z-requires
 led_to-z-requires c = let more : 0 < c.loop-end.e = omega (arith, c.in-Some.ensures) in
     let end : c.in-Some.end ≡ c.loop-end.e - 1 = omega (arith, c.in-Some.ensures) in
-    (other_code c.requires.linked.sizes c.loop-end.invariant.cur more (ap opposite end) refl).0
+    (other_code c.requires.linked.sizes c.loop-end.invariant.cur more (ap other_end end) refl).0
 
 pub rank_of-r-requires : goal.rank_of-r-requires
 rank_of-r-requires c = let more : 0 < c.loop-end.e = omega (arith, c.in-Some.ensures) in
     let end : c.in-Some.end ≡ c.loop-end.e - 1 = omega (arith, c.in-Some.ensures) in
-    let code : c.led_to-z.result.0 < 2 * c.args.self.now.n = (other_code c.requires.linked.sizes c.loop-end.invariant.cur more (ap opposite end) c.led_to-z.ensures).1 in
+    let code : c.led_to-z.result.0 < 2 * c.args.self.now.n = (other_code c.requires.linked.sizes c.loop-end.invariant.cur more (ap other_end end) c.led_to-z.ensures).1 in
     code
 
 pub returns-then-r-eq0 : goal.returns-then-r-eq0
 returns-then-r-eq0 c = let more : 0 < c.loop-end.e = omega (arith, c.in-Some.ensures) in
     let end : c.in-Some.end ≡ c.loop-end.e - 1 = omega (arith, c.in-Some.ensures) in
-    let led : c.led_to-z.result.0 ≡ get_or c.args.self.now.words (opposite (c.loop-end.e - 1)) 0 = c.led_to-z.ensures ∙ ap (λ (x : ℕ). get_or c.args.self.now.words (opposite x) 0) end in
+    let led : c.led_to-z.result.0 ≡ get_or c.args.self.now.words (other_end (c.loop-end.e - 1)) 0 = c.led_to-z.ensures ∙ ap (λ (x : ℕ). get_or c.args.self.now.words (other_end x) 0) end in
     (scan_hit c.requires.linked.sizes c.requires.linked.nexts c.loop-end.invariant more led (c.end_after-e.ensures ∙ ap (next c.args.self.now.n c.args.self.now.tables) end) (sym c.rank_of-r.ensures ∙ c.if-r-eq0.true))
 
 pub loop-end-preserved : goal.loop-end-preserved
 loop-end-preserved c = let more : 0 < c.loop-end.e = omega (arith, c.in-Some.ensures) in
     let end : c.in-Some.end ≡ c.loop-end.e - 1 = omega (arith, c.in-Some.ensures) in
-    let led : c.led_to-z.result.0 ≡ get_or c.args.self.now.words (opposite (c.loop-end.e - 1)) 0 = c.led_to-z.ensures ∙ ap (λ (x : ℕ). get_or c.args.self.now.words (opposite x) 0) end in
+    let led : c.led_to-z.result.0 ≡ get_or c.args.self.now.words (other_end (c.loop-end.e - 1)) 0 = c.led_to-z.ensures ∙ ap (λ (x : ℕ). get_or c.args.self.now.words (other_end x) 0) end in
     let least = least_of_two c.loop-end.low c.rank_of-r.result c.loop-end.invariant.pos (omega (arith, c.if-r-eq0.false)) in
     let low : c.min-low.result ≡ min c.loop-end.low c.rank_of-r.result = c.min-low.ensures in
     rw low
