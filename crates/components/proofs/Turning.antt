@@ -6,7 +6,7 @@ use mathlib.Core.List.{List}
 use native.Mathlib.Omega.{arith}
 use lib.ListN.{length, get_or}
 use Rattle.components.specs.Leads.{Lead, Side}
-use Rattle.components.specs.Walk.{Ranked, PartClosed, Least, cursor, Accounted, Dfs, WalkState, Old, Scanned, Stacked, Beyond, Settled, opposites, Lifted, TurnMade, Walking, Alike, moved, noted}
+use Rattle.components.specs.Walk.{Ranked, PartClosed, Least, cursor, Accounted, Dfs, WalkState, Old, Scanned, Stacked, Beyond, Settled, opposites, Lifted, TurnMade, Turns, Walking, Alike, moved, noted}
 use Rattle.meaning.specs.Chains.{Step, Reach, Tied}
 use Rattle.meaning.specs.Codes.{opposite}
 use Rattle.meaning.specs.Rules.{other_end}
@@ -540,3 +540,8 @@ looked {w} {u} {place} {a} {e} {low} {hit} sz pk h at of f q =
 -- what changes the tables and the counts leaves the list
 pub alike_by : (w u : Walking) {v : Walking} {T : List ℕ} {t k : ℕ} → u.n ≡ w.n → u.words ≡ w.words → v ≡ moved u T t k → Alike w v
 alike_by w u a b q = rw q (record { n = a; words = b })
+
+-- and a turn that ends so is made
+pub turns_by : (w u : Walking) {v : Walking} {T : List ℕ} {t k : ℕ} → u.n ≡ w.n → u.words ≡ w.words → v ≡ moved u T t k
+    → TurnMade w.n w.words w.tables w.top w.depth T t k → Turns w v
+turns_by w u n words q made = record { alike = alike_by w u n words q; made = rw q made }

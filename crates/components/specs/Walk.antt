@@ -11,6 +11,7 @@ use Rattle.moves.specs.Walks.{count_of}
 use Rattle.components.specs.Leads.{Lead, Side, settled_rank}
 use Rattle.components.specs.declared.settle.Side.{Side as Facing}
 use Rattle.components.specs.declared.settle.Side.TheVariants.{Own, Opposite}
+use Rattle.components.specs.declared.tables.Walk.{Walk}
 use Rattle.meaning.specs.declared.codes.Code.{Code}
 
 -- the place of a code's cursor, and what stands there: 1 more than the end where its list goes on, or 0
@@ -27,6 +28,10 @@ pub record Walking : Type 0 where
   pub tables : List ℕ
   pub top : ℕ
   pub depth : ℕ
+
+-- the walk that a `Walk` holds: its clauses speak of it
+abbrev pub walking : Walk → Walking
+walking w = record { n = w.n; words = w.words.now; tables = w.tables.now; top = w.top; depth = w.depth }
 
 -- the tables of n choices fit
 abbrev pub Room : ℕ → List ℕ → Type 0

@@ -3,7 +3,7 @@
 ghost use Rattle.std.specs.Prelude.{◌*◌, ◌<◌};
 ghost use Rattle.moves.specs.Layout.{mark};
 ghost use Rattle.moves.specs.Lists.{Cursor};
-ghost use Rattle.components.specs.Walk.{cursor, or_zero, Linked, Scanned};
+ghost use Rattle.components.specs.Walk.{cursor, or_zero, Linked, Scanned, walking};
 
 use crate::tables::Walk;
 use meaning::Code;
@@ -18,9 +18,9 @@ pub(crate) struct Found {
 
 impl Walk<'_> {
     pub(crate) fn scan(&self, a: Code) -> Found
-        requires linked { Linked self.now }
-        requires a_bound { (a.0 < 2 * self.now.n) × (0 < mark self.now.n self.now.tables a.0) × Cursor self.now.words a.0 (cursor self.now.n self.now.tables a.0) }
-        ensures { Scanned self.now.n self.now.words self.now.tables a.0 result.cursor result.low (or_zero result.down) }
+        requires linked { Linked (walking self.now) }
+        requires a_bound { (a.0 < 2 * self.now.n) × (0 < mark self.now.n self.now.tables.now a.0) × Cursor self.now.words.now a.0 (cursor self.now.n self.now.tables.now a.0) }
+        ensures { Scanned self.now.n self.now.words.now self.now.tables.now a.0 result.cursor result.low (or_zero result.down) }
     {
         let mut low = self.rank_of(a);
         // The cursor is kept as it is stored, a link of the list: so no `for`.

@@ -4,7 +4,7 @@
 ghost use Rattle.std.specs.Prelude.{◌≡◌, ◌*◌, ◌≤◌, ◌<◌};
 ghost use Rattle.moves.specs.Layout.{trail};
 ghost use Rattle.components.specs.Leads.{settled_rank};
-ghost use Rattle.components.specs.Walk.{Stacked, Least, Settled, codes_of, turned, or_zero, Lone, Closes, retabled};
+ghost use Rattle.components.specs.Walk.{Stacked, Least, Settled, codes_of, turned, or_zero, Lone, Closes, retabled, walking};
 
 use crate::tables::Walk;
 use meaning::Code;
@@ -31,7 +31,7 @@ impl Walk<'_> {
     // The smallest of the codes on the stack from a place on.
     fn least(&self, from: usize) -> Code
         requires { (from < self.now.top) × (self.now.top ≤ 2 * self.now.n) }
-        ensures { Least (trail self.now.n self.now.tables) from self.now.top result.0 }
+        ensures { Least (trail self.now.n self.now.tables.now) from self.now.top result.0 }
     {
         let top = self.top();
         let mut l = self.stacked(from);
@@ -44,8 +44,8 @@ impl Walk<'_> {
     // The smallest of their opposites, where none of these was met yet. It is no `least` of the other side: one function for
     // both would have to say in its clause what either says.
     fn lone(&self, from: usize) -> Option<Code>
-        requires { (from < self.now.top) × Stacked self.now.n self.now.tables self.now.top }
-        ensures { Lone self.now.n from self.now.top self.now.tables (or_zero result) }
+        requires { (from < self.now.top) × Stacked self.now.n self.now.tables.now self.now.top }
+        ensures { Lone self.now.n from self.now.top self.now.tables.now (or_zero result) }
     {
         let mut l = self.stacked(from).opposite();
         for p in from..self.top() {
@@ -60,9 +60,10 @@ impl Walk<'_> {
 
     // The codes of this side get the rank that names their smallest.
     fn settle(&mut self, side: Side, from: usize, lead: Code)
-        requires { (from ≤ self.old.top) × (lead.0 < 2 * self.old.n) × Stacked self.old.n self.old.tables self.old.top }
-        ensures retabled { self.new ≡ retabled self.old self.new.tables }
-        ensures settled { Settled self.old.n (codes_of side self.old.n self.old.tables) from self.old.top (settled_rank self.old.n lead.0) self.old.tables self.new.tables }
+        requires { (from ≤ self.old.top) × (lead.0 < 2 * self.old.n) × Stacked self.old.n self.old.tables.now self.old.top }
+        ensures same { self.new.tables.ghost_name ≡ self.old.tables.ghost_name }
+        ensures retabled { walking self.new ≡ retabled (walking self.old) self.new.tables.now }
+        ensures settled { Settled self.old.n (codes_of side self.old.n self.old.tables.now) from self.old.top (settled_rank self.old.n lead.0) self.old.tables.now self.new.tables.now }
     {
         let rank = self.settled_rank(lead);
         for p in from..self.top() {
@@ -73,8 +74,9 @@ impl Walk<'_> {
 
     // The codes on the stack from this place on are a component, and so are their opposites.
     pub(crate) fn close(&mut self, from: usize)
-        requires { (from < self.old.top) × Stacked self.old.n self.old.tables self.old.top }
-        ensures { Closes self.old from self.new }
+        requires { (from < self.old.top) × Stacked self.old.n self.old.tables.now self.old.top }
+        ensures same { self.new.tables.ghost_name ≡ self.old.tables.ghost_name }
+        ensures closes { Closes (walking self.old) from (walking self.new) }
     {
         let l = self.least(from);
         self.settle(Side::Own, from, l);

@@ -10,6 +10,7 @@ mod visit; // every rota, one after the other
 
 use chains::chain::chain;
 use checks::accept::{accept, accept_next, chains_need};
+use components::ties::Ranks;
 use components::walk::components;
 use meaning::{Clashed, Code, Decided, Listed, Moved, Refusal};
 use moves::index::prepare;
@@ -99,7 +100,8 @@ pub fn ties(n: usize, words: &[u16], area: &mut [u16], work: &mut [u16]) -> Resu
     let used = accept(n, words, area.len(), n, work.len())?;
     let tables = &mut work[..used];
     prepare(n, words, tables);
-    let ranks = components(n, words, tables);
+    components(n, words, tables);
+    let ranks = Ranks::new(n, tables);
     let answer = if ranks.some_clash() {
         Listed::Impossible
     } else {

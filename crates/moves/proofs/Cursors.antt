@@ -1,8 +1,8 @@
 -- A cursor along the list of a code: where it starts, how it goes on and which ends it has passed. Each loop along a list cites these.
-use mathlib.Core.Path.{◌≡◌}
+use mathlib.Core.Path.{◌≡◌, ap, ◌∙◌}
 use mathlib.Core.Logic.{◌⊎◌, inl, inr, ⊎_elim, ◌≢◌}
 use mathlib.Core.List.{List}
-use Prim.Native.Nat.{ℕ, ◌+◌, ◌-◌, ◌*◌, ◌≤◌, ◌<◌}
+use Prim.Native.Nat.{ℕ, suc, ◌+◌, ◌-◌, ◌*◌, ◌≤◌, ◌<◌}
 use native.Mathlib.Omega.{arith}
 use lib.ListN.{length, get_or}
 use Rattle.meaning.specs.Codes.{opposite}
@@ -67,3 +67,21 @@ pub other_code : {n : ℕ} {ws W : List ℕ} {a e k b : ℕ} →
 other_code {n} {ws} {W} {a} {e} {k} {b} s c p qk qb =
     let l : k < length ws = rw qk (other_end_below (e - 1) (length ws) s.even (omega (arith, (c.at p).0))) in
     (l, omega (arith, qb, word_below s k l))
+
+-- the code across the end k that a link leads to
+pub link_code : {n : ℕ} {ws W : List ℕ} {a k j : ℕ} → Sizes n ws W → Cursor ws a (suc k) → j ≡ other_end k → (j < length ws) × (get_or ws j 0 < 2 * n)
+link_code {n} {ws} {W} {a} {k} {j} s c q =
+    let l : j < length ws = rw q (other_end_below k (length ws) s.even (omega (arith, (c.at (omega arith)).0))) in
+    (l, word_below s j l)
+
+-- as a loop along the list has it
+pub link_led : (ws : List ℕ) (k : ℕ) {j b : ℕ} → b ≡ get_or ws j 0 → j ≡ other_end k → b ≡ get_or ws (other_end (suc k - 1)) 0
+link_led ws k {j} {b} qb qj =
+    let z : suc k - 1 ≡ k = omega arith in
+    rw z (qb ∙ ap (λ (x : ℕ). get_or ws x 0) qj)
+
+-- and the link after it
+pub link_next : (n : ℕ) (W : List ℕ) (k : ℕ) {e : ℕ} → e ≡ next n W k → e ≡ next n W (suc k - 1)
+link_next n W k {e} q =
+    let z : suc k - 1 ≡ k = omega arith in
+    rw z q

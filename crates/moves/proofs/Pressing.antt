@@ -170,6 +170,14 @@ press_start {n} {ws} {src} {s} {W} {W'} {t} lw r c d =
       },
     )
 
+-- and what holds from there on
+pub pressed_on : {n : ℕ} {ws : List ℕ} {src s : ℕ} {W W₀ : List ℕ} {t₀ : ℕ} {W' : List ℕ} {h t : ℕ} →
+    Tables n W → Holding n ws W s → (src < 2 * n) × (mark n W src ≡ 0) × (mark n W (opposite src) ≡ 0) → Touched n W src 1 s W₀ t₀ → Pressing n ws W₀ s t₀ W' h t →
+    Apart n W W' × Going n ws src W s W' h t
+pressed_on lw hold c d r =
+    let b = press_start lw hold c d in
+    (apart_trans b.0 r.apart, r.walk _ _ _ b.1)
+
 -- a turn visits one place more
 pub press_turn : {n : ℕ} {ws E W₀ : List ℕ} {h₀ t₀ : ℕ} {W : List ℕ} {h t a : ℕ} {W' : List ℕ} {t' : ℕ} →
     Sizes n ws E → Pressing n ws W₀ h₀ t₀ W h t → h < t → a ≡ trail n W h →

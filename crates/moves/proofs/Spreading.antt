@@ -1,4 +1,4 @@
--- The turns of `walk` and `take_back`, over the work area.
+-- The turns of `spread` and `undo`, over the work area.
 use mathlib.Core.Path.{◌≡◌, refl, sym, ap, ◌∙◌, subst}
 use mathlib.Core.Logic.{◌≢◌}
 use mathlib.Core.List.{List}
@@ -37,6 +37,13 @@ spread_start {n} {ws} {src} {s} {W} {W'} {t} lw l z r d =
           (touch_place n W src 1 s l ls lw)
           (touch_places n W src 1 s l ls lw),
     )
+
+-- and what holds from there on
+pub walked_on : {n : ℕ} {ws : List ℕ} {src s : ℕ} {W W₀ : List ℕ} {t₀ : ℕ} {W' : List ℕ} {h t : ℕ} →
+    Tables n W → (src < 2 * n) × (mark n W src ≡ 0) → Listed n W s → Touched n W src 1 s W₀ t₀ → Spreading n ws W₀ s t₀ W' h t → Apart n W W' × Walk n ws src W s W' h t
+walked_on lw c r d g =
+    let b = spread_start lw c.0 c.1 r d in
+    (apart_trans b.0 g.apart, g.walk _ _ _ b.1)
 
 -- a turn visits one place more
 pub spread_turn : {n : ℕ} {ws E W₀ : List ℕ} {h₀ t₀ : ℕ} {W : List ℕ} {h t a v : ℕ} {W' : List ℕ} {t' : ℕ} →

@@ -1,12 +1,14 @@
 -- The lent area as a move sees it, with the rules that it is lent for, and what each move leaves of it.
+use Rattle.std.specs.Borrow.{GName}
 use Rattle.std.specs.Prelude.{◌≡◌, Option, Some, None, List, ℕ, suc, ◌*◌, ◌≤◌, ◌<◌, length, set}
 use Rattle.meaning.specs.Codes.{opposite}
-use Rattle.moves.specs.Layout.{spare_at, mark, trail, spare, next, Apart}
+use Rattle.moves.specs.Layout.{spare_at, mark, spare, next}
 use Rattle.moves.specs.Lists.{Ready}
-use Rattle.moves.specs.Walks.{Listed, Holding, Touched, Visited, SpreadFrom, Undone}
+use Rattle.moves.specs.Walks.{Listed, Holding, SpreadFrom, Undone}
 
--- n choices, the words of the rules, the words of the area, and how many places of the trail are taken
+-- the reference by which the area was lent, n choices, the words of the rules, the words of the area, and how many places of the trail are taken
 pub record Area : Type 0 where
+  pub name : GName
   pub n : ℕ
   pub rules : List ℕ
   pub words : List ℕ
@@ -29,8 +31,9 @@ Holds a = Holding a.n a.rules a.words a.tail
 abbrev pub Free : Area → ℕ → Type 0
 Free a c = (c < 2 * a.n) × (mark a.n a.words c ≡ 0) × (mark a.n a.words (opposite c) ≡ 0)
 
--- what each move leaves: the choices and the rules, and an area that is sound
+-- what each move leaves: the reference, the choices and the rules, and an area that is sound
 pub record Same (a b : Area) : Type 0 where
+  pub lent : b.name ≡ a.name
   pub choices : b.n ≡ a.n
   pub list : b.rules ≡ a.rules
   pub sound : IsSound b
@@ -60,17 +63,6 @@ pub record Begun (n : ℕ) (ws : List ℕ) (b : Area) : Type 0 where
 abbrev pub link_of : Option ℕ → ℕ
 link_of None = 0
 link_of (Some e) = suc e
-
--- c is touched with v
-pub record Touches (a : Area) (c v : ℕ) (b : Area) : Type 0 where
-  pub same : Same a b
-  pub touched : Touched a.n a.words c v a.tail b.words b.tail
-
--- what the code c leads to is marked with v
-pub record Visits (a : Area) (c v : ℕ) (b : Area) : Type 0 where
-  pub same : Same a b
-  pub apart : Apart a.n a.words b.words
-  pub visited : Visited (2 * a.n) a.rules c v (mark a.n a.words) (trail a.n a.words) a.tail (mark a.n b.words) (trail a.n b.words) b.tail
 
 -- what c reaches is marked
 pub record Spreads (a : Area) (c : ℕ) (b : Area) : Type 0 where

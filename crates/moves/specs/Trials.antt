@@ -1,7 +1,7 @@
 -- What a trial leaves: the set with all that a code reaches, or the set as it was.
 use Rattle.std.specs.Prelude.{◌≡◌, Result, Ok, Err, List, ℕ, ◌*◌, ◌≤◌, ◌<◌}
 use Rattle.moves.specs.declared.attempt.Failure.{Failure}
-use Rattle.meaning.specs.declared.codes.Code.{Code}
+use Rattle.moves.specs.declared.attempt.Stop.{Stop}
 use Rattle.meaning.specs.Chains.{Step, Reach}
 use Rattle.meaning.specs.Codes.{opposite}
 use Rattle.moves.specs.Area.{Area, Same}
@@ -10,9 +10,9 @@ use Rattle.moves.specs.Walks.{OntoTrail, Held, Holding, Touched}
 use Rattle.meaning.proofs.Sets.{Closed, Consistent, With}
 
 -- b is touched; or nothing changes, and its opposite has a mark
-abbrev pub Met : ℕ → List ℕ → ℕ → ℕ → List ℕ → ℕ → Result (Unit {0}) Code → Type 0
-Met n W b tail W' t (Ok u) = Touched n W b 1 tail W' t × (mark n W b ≡ 0 → mark n W (opposite b) ≡ 0)
-Met n W b tail W' t (Err x) = (x.0 ≡ b) × (t ≡ tail) × (W' ≡ W) × (0 < mark n W (opposite b))
+abbrev pub Meets : ℕ → List ℕ → ℕ → ℕ → List ℕ → Result ℕ Stop → Type 0
+Meets n W b tail W' (Ok t) = Touched n W b 1 tail W' t × (mark n W b ≡ 0 → mark n W (opposite b) ≡ 0)
+Meets n W b tail W' (Err s) = (s.code.0 ≡ b) × (s.tail ≡ tail) × (W' ≡ W) × (0 < mark n W (opposite b))
 
 -- the trail has grown, by codes to which a leads
 pub record Pulled (n : ℕ) (ws : List ℕ) (a : ℕ) (W : List ℕ) (t : ℕ) (W' : List ℕ) (t' : ℕ) : Type 0 where
@@ -22,9 +22,9 @@ pub record Pulled (n : ℕ) (ws : List ℕ) (a : ℕ) (W : List ℕ) (t : ℕ) (
   pub consistent : Consistent (Held n W) → Consistent (Held n W')
 
 -- by all of them; or a leads to a code whose opposite has a mark
-abbrev pub Drawn : ℕ → List ℕ → ℕ → List ℕ → ℕ → List ℕ → ℕ → Result (Unit {0}) Code → Type 0
-Drawn n ws a W t W' t' (Ok u) = Pulled n ws a W t W' t' × ((k b : ℕ) → Step ws a k b → 0 < mark n W' b)
-Drawn n ws a W t W' t' (Err b) = Pulled n ws a W t W' t' × ((k : ℕ) × Step ws a k b.0) × (0 < mark n W' (opposite b.0))
+abbrev pub Pulls : ℕ → List ℕ → ℕ → List ℕ → ℕ → List ℕ → Result ℕ Stop → Type 0
+Pulls n ws a W t W' (Ok t') = Pulled n ws a W t W' t' × ((k b : ℕ) → Step ws a k b → 0 < mark n W' b)
+Pulls n ws a W t W' (Err s) = Pulled n ws a W t W' s.tail × ((k : ℕ) × Step ws a k s.code.0) × (0 < mark n W' (opposite s.code.0))
 
 -- the trail has grown, by src and codes that it reaches
 pub record Pressed (n : ℕ) (ws : List ℕ) (src tail : ℕ) (W W' : List ℕ) (t : ℕ) : Type 0 where
@@ -35,9 +35,9 @@ pub record Pressed (n : ℕ) (ws : List ℕ) (src tail : ℕ) (W W' : List ℕ) 
   pub has : 0 < mark n W' src
 
 -- by all of them; or src reaches a code whose opposite has a mark
-abbrev pub Driven : ℕ → List ℕ → ℕ → ℕ → List ℕ → List ℕ → ℕ → Result (Unit {0}) Code → Type 0
-Driven n ws src tail W W' t (Ok u) = Pressed n ws src tail W W' t × Closed ws (Held n W')
-Driven n ws src tail W W' t (Err b) = Pressed n ws src tail W W' t × (b.0 < 2 * n) × Reach ws src b.0 × (0 < mark n W' (opposite b.0))
+abbrev pub Presses : ℕ → List ℕ → ℕ → ℕ → List ℕ → List ℕ → Result ℕ Stop → Type 0
+Presses n ws src tail W W' (Ok t) = Pressed n ws src tail W W' t × Closed ws (Held n W')
+Presses n ws src tail W W' (Err s) = Pressed n ws src tail W W' s.tail × (s.code.0 < 2 * n) × Reach ws src s.code.0 × (0 < mark n W' (opposite s.code.0))
 
 -- the set has grown by all that c reaches, and c does not lead to its opposite
 pub record Grew (n : ℕ) (ws : List ℕ) (c tail : ℕ) (W W' : List ℕ) (t : ℕ) : Type 0 where
@@ -63,28 +63,16 @@ pub record GaveUp (n : ℕ) (ws : List ℕ) (c tail : ℕ) (W W' : List ℕ) (b 
   pub out_opposite : mark n W' (opposite b) ≡ 0
 
 -- the one or the other; a trial walks at most all codes
+abbrev pub Attempts : ℕ → List ℕ → ℕ → ℕ → List ℕ → List ℕ → Result ℕ Failure → Type 0
+Attempts n ws c tail W W' (Ok t) = Grew n ws c tail W W' t
+Attempts n ws c tail W W' (Err f) = GaveUp n ws c tail W W' f.code.0 × (f.walked ≤ 2 * n)
+
+-- the same, where the trail's end is told beside the answer
 abbrev pub Tried : ℕ → List ℕ → ℕ → ℕ → List ℕ → List ℕ → ℕ → Result (Unit {0}) Failure → Type 0
 Tried n ws c tail W W' t (Ok u) = Grew n ws c tail W W' t
 Tried n ws c tail W W' t (Err f) = GaveUp n ws c tail W W' f.code.0 × (f.walked ≤ 2 * n) × (t ≡ tail)
 
--- The same of the whole area.
-
--- b is met
-pub record Meets (a : Area) (c : ℕ) (b : Area) (r : Result (Unit {0}) Code) : Type 0 where
-  pub same : Same a b
-  pub met : Met a.n a.words c a.tail b.words b.tail r
-
--- c pulls what it leads to
-pub record Pulls (a : Area) (c : ℕ) (b : Area) (r : Result (Unit {0}) Code) : Type 0 where
-  pub same : Same a b
-  pub drawn : Drawn a.n a.rules c a.words a.tail b.words b.tail r
-
--- c presses on to all that it reaches
-pub record Presses (a : Area) (c : ℕ) (b : Area) (r : Result (Unit {0}) Code) : Type 0 where
-  pub same : Same a b
-  pub driven : Driven a.n a.rules c a.tail a.words b.words b.tail r
-
--- a trial of c
+-- the same of the whole area
 pub record Tries (a : Area) (c : ℕ) (b : Area) (r : Result (Unit {0}) Failure) : Type 0 where
   pub same : Same a b
   pub tried : Tried a.n a.rules c a.tail a.words b.words b.tail r

@@ -6,6 +6,7 @@
 // the check has it proved that nothing is lost. And lists are linked by index: there is no heap, and C lends one area.
 ghost use Rattle.std.specs.Prelude.{◌≡◌, ◌*◌, ◌<◌, ◌≤◌, length, set};
 ghost use Rattle.meaning.specs.Sizes.{max_choices};
+ghost use Rattle.moves.specs.Area.{link_of};
 ghost use Rattle.moves.specs.Layout.{Tables, head_at, mark_at, trail_at, spare_at, next_at, head, mark, trail, spare, next};
 
 use meaning::Code;
@@ -23,6 +24,14 @@ pub fn head_of(n: usize, work: &[u16], c: Code) -> usize
     ensures { result ≡ head n work.now c.0 }
 {
     usize::from(head_word(n, work, c))
+}
+
+// The first end that holds c.
+pub(crate) fn first_link(n: usize, work: &[u16], c: Code) -> Option<usize>
+    requires { (c.0 < 2 * n) × Tables n work.now }
+    ensures { link_of result ≡ head n work.now c.0 }
+{
+    head_of(n, work, c).checked_sub(1)
 }
 
 pub fn set_head(n: usize, work: &mut [u16], c: Code, v: u16)
@@ -97,6 +106,14 @@ pub fn next_of(n: usize, work: &[u16], e: usize) -> usize
     ensures { result ≡ next n work.now e }
 {
     usize::from(work[8 * n + e])
+}
+
+// The next end after e that holds e's code.
+pub(crate) fn next_link(n: usize, work: &[u16], e: usize) -> Option<usize>
+    requires { next_at n e < length work.now }
+    ensures { link_of result ≡ next n work.now e }
+{
+    next_of(n, work, e).checked_sub(1)
 }
 
 pub fn set_next(n: usize, work: &mut [u16], e: usize, v: u16)

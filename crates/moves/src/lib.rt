@@ -5,13 +5,15 @@
 //   choices(), codes(), rules(), tail()         each also says that the area is `Sound`
 //   mark(x), spare(x), set_spare(x, v)          `Writes`
 //   view()                                      a `View` of the tables, for what is read off at the end
+//   finish()                                    the lent area, given back as it stands
 //   trail(i)                                    the code at a place below the tail
 //   first_end(c), next_end(end) -> Option       along the ends that hold a code, `while let Some(end) = at`
 //   across(end)                                 the code at the other end of the same rule
 //   spread(source), undo_to(end)                `Spreads`, `Undoes`
 //   attempt(c) -> Result<(), Failure>           `Tries`
-// `spread::touch` and `spread::undo`, on which these stand, ask for the tables and the trail alone.
-// Each such record but `Begun` has `same : Same before after` (the same n and rules, and a sound area) beside what the move does.
+// `spread::touch`, `undo` and `spread` and `attempt::attempt`, on which these stand, are functions over the area itself and the trail's length: who lends
+// them a slice knows what they leave in it. A `Work` tells the same of the slice that it was lent, by `finish`: it is still that slice (`name`).
+// Each such record but `Begun` has `same : Same before after` (the same slice, n and rules, and a sound area) beside what the move does.
 #![tactic(auto)]
 
 pub mod attempt; // trials that are kept, or undone

@@ -28,7 +28,7 @@ impl<'a> Model for Work<'a> {
 
     ghost Value = { Area };
 
-    ghost view = { λ w. record { n = w.n; rules = w.rules.now; words = w.words.now; tail = w.tail } };
+    ghost view = { λ w. record { name = w.words.ghost_name; n = w.n; rules = w.rules.now; words = w.words.now; tail = w.tail } };
 
     ghost invariant = { λ w. Sound w.n w.rules.now w.words.now w.tail };
 }
@@ -37,7 +37,8 @@ impl<'a> Work<'a> {
     // These two make the value: so they take its parts.
     pub fn new(n: usize, rules: &'a [u16], words: &'a mut [u16]) -> Work<'a>
         requires { Sizes n rules.now words.old }
-        ensures { Begun n rules.now result }
+        ensures begun { Begun n rules.now result }
+        ensures lent { result.name ≡ words.entry.ghost_name }
     {
         prepare(n, rules, words);
         Work::resume(n, rules, words, 0)
@@ -46,7 +47,7 @@ impl<'a> Work<'a> {
     // The area as it stands, with so many places of its trail taken.
     pub fn resume(n: usize, rules: &'a [u16], words: &'a mut [u16], tail: usize) -> Work<'a>
         requires { Sound n rules.now words.old tail }
-        ensures { result ≡ record { n = n; rules = rules.now; words = words.old; tail = tail } }
+        ensures { result ≡ record { name = words.entry.ghost_name; n = n; rules = rules.now; words = words.old; tail = tail } }
     {
         Work {
             n,
@@ -54,6 +55,14 @@ impl<'a> Work<'a> {
             words,
             tail,
         }
+    }
+
+    // Gives the area back, to a caller who goes on with it as the moves left it: it is the slice that was lent.
+    pub fn finish(self) -> &'a mut [u16]
+        ensures lent { result.ghost_name ≡ self.entry.name }
+        ensures words { result.now ≡ self.entry.words }
+    {
+        self.words
     }
 
     // How many choices there are.

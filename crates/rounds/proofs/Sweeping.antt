@@ -18,8 +18,8 @@ use Rattle.search.specs.State.{Stands}
 use Rattle.rounds.proofs.Rounds.{more_none, more_on, more_noted, tried_possible, tried_failing, in_set, empty_set}
 
 -- what stands is sound
-pub stands_sound : {a : Area} → Stands a → IsSound a
-stands_sound s = record { ready = s.ready; listed = s.holding.listed }
+pub stands_sound : (a : Area) → Stands a → IsSound a
+stands_sound a s = record { ready = s.ready; listed = s.holding.listed }
 
 -- a trial is kept, and that is noted
 pub considers_kept : {a : Area} {c : ℕ} {b b' : Area} {x : Unit {0}} → Stands a → c < 2 * a.n → Tries a c b (Ok x) → Writes b c 1 b' → Considers a c b'
@@ -39,7 +39,7 @@ failed_teaches l t = rw (t.same.choices, t.same.list) (l, t.tried.0.turns, t.tri
 
 -- something is noted already
 pub considers_noted : {a : Area} {c : ℕ} → Stands a → (mark a.n a.words (opposite c) ≡ 0 → 0 < spare a.n a.words c) → Considers a c a
-considers_noted s h = record { same = same_refl (stands_sound s); considered = record { more = more_none s; here = h } }
+considers_noted {a} s h = record { same = same_refl (stands_sound a s); considered = record { more = more_none s; here = h } }
 
 -- the code is in the set
 pub considers_held : {a : Area} {c : ℕ} {b : Area} → Stands a → c < 2 * a.n → 0 < mark a.n a.words c → Writes a c 1 b → Considers a c b
@@ -57,7 +57,7 @@ pub record Rounding (a b : Area) : Type 0 where
 
 -- something is noted of c already, and the set is empty
 pub finds_noted : {a : Area} {c : ℕ} → Stands a → a.tail ≡ 0 → 0 < spare a.n a.words c → FindsOut a c a
-finds_noted s e h = record { same = same_refl (stands_sound s); empty = e; found = record { more = rw e at (more_none s); here = h } }
+finds_noted {a} s e h = record { same = same_refl (stands_sound a s); empty = e; found = record { more = rw e at (more_none s); here = h } }
 
 -- or a round that starts with c notes something
 pub finds_out : {a : Area} {c : ℕ} {b b' : Area} → Stands a → a.tail ≡ 0 → c < 2 * a.n → Considers a c b → Goes b b' → FindsOut a c b'

@@ -19,16 +19,16 @@ pub chain-there-requires-clause-c_bound : goal.chain-there-requires-clause-c_bou
 chain-there-requires-clause-c_bound c =
     let accepts = accepted _ _ _ _ _ (sym (c.in_ok-used.ensures.due ∙ due_needs _ _ _ _ _ _ c.chains_need.ensures.need)) in
     let few = accepts.choices in
-    late_chains few c.new-state.ensures c.in-Err.ensures c.undo_to.ensures _
-    (is_late few c.new-state.ensures c.in-Err.ensures c.undo_to.ensures _ c.of.ensures) accepts.room
+    late_chains few c.new-state.ensures.begun c.in-Err.ensures c.undo_to.ensures _
+    (is_late few c.new-state.ensures.begun c.in-Err.ensures c.undo_to.ensures _ c.of.ensures) accepts.room
 
 pub chain-back-requires-clause-c_bound : goal.chain-back-requires-clause-c_bound
 chain-back-requires-clause-c_bound c =
     let accepts = accepted _ _ _ _ _ (sym (c.in_ok-used.ensures.due ∙ due_needs _ _ _ _ _ _ c.chains_need.ensures.need)) in
     let few = accepts.choices in
-    early_chains few c.new-state.ensures c.in-Err.ensures c.undo_to.ensures _
-    (is_late few c.new-state.ensures c.in-Err.ensures c.undo_to.ensures _ c.of.ensures) accepts.room c.chain-there.ensures _
-    (is_early few c.new-state.ensures c.in-Err.ensures c.undo_to.ensures _ c.of-in-Err.ensures)
+    early_chains few c.new-state.ensures.begun c.in-Err.ensures c.undo_to.ensures _
+    (is_late few c.new-state.ensures.begun c.in-Err.ensures c.undo_to.ensures _ c.of.ensures) accepts.room c.chain-there.ensures _
+    (is_early few c.new-state.ensures.begun c.in-Err.ensures c.undo_to.ensures _ c.of-in-Err.ensures)
 
 pub returns : goal.returns
 returns c =
@@ -39,12 +39,12 @@ returns c =
     elim c.match-search.branch [
       | in-Ok w ↦ rw (w.chains-is, w.answer-is)
           (answers _ _ _ _ c.in_ok-used.ensures.used _ _ _ _ _ _ [] _ long c.finish.ensures fine
-          ((rota_of c.args.n c.search.new.work.words, (first_found c.new-state.ensures w.in-Ok.ensures).allowed), refl)
+          ((rota_of c.args.n c.search.new.work.words, (first_found c.new-state.ensures.begun w.in-Ok.ensures).allowed), refl)
           refl)
       | in-Err w ↦
-          let both = chains_found few c.new-state.ensures w.in-Err.ensures w.undo_to.ensures _
-          (is_late few c.new-state.ensures w.in-Err.ensures w.undo_to.ensures _ w.of.ensures) accepts.room w.chain-there.ensures
-          (is_early few c.new-state.ensures w.in-Err.ensures w.undo_to.ensures _ w.of-in-Err.ensures) w.chain-back.ensures in
+          let both = chains_found few c.new-state.ensures.begun w.in-Err.ensures w.undo_to.ensures _
+          (is_late few c.new-state.ensures.begun w.in-Err.ensures w.undo_to.ensures _ w.of.ensures) accepts.room w.chain-there.ensures
+          (is_early few c.new-state.ensures.begun w.in-Err.ensures w.undo_to.ensures _ w.of-in-Err.ensures) w.chain-back.ensures in
           rw (w.chains-is, w.answer-is)
           (answers _ _ _ _ c.in_ok-used.ensures.used _ _ _ _ _ _ both.0 _ long c.finish.ensures fine
           both.1

@@ -15,7 +15,7 @@ new-state-requires c = front_sizes _ _ _ _ c.in_ok-used.ensures.used _ _ (accept
 pub put_rota-requires : goal.put_rota-requires
 put_rota-requires c =
     let accepts = accepted _ _ _ _ _ (sym c.in_ok-used.ensures.due) in
-    let same = c.view.ensures.choices ∙ c.search.ensures.same.choices ∙ c.new-state.ensures.choices in
+    let same = c.view.ensures.choices ∙ c.search.ensures.same.choices ∙ c.new-state.ensures.begun.choices in
     (omega (arith, same, accepts.choices), omega (arith, same, accepts.room))
 
 pub returns : goal.returns
@@ -24,10 +24,10 @@ returns c =
     elim c.match-search.branch [
       | in-Ok w ↦ rw (w.rota-is, w.answer-is)
           (answers _ _ _ _ c.in_ok-used.ensures.used _ _ _ _ _ _ (rota_of c.args.n c.search.new.work.words) _ long c.finish.ensures c.in_ok-used.ensures.due
-          (first_found c.new-state.ensures w.in-Ok.ensures)
-          (rw (w.view.ensures.choices ∙ c.search.ensures.same.choices ∙ c.new-state.ensures.choices, w.view.ensures.words) at w.put_rota.ensures))
+          (first_found c.new-state.ensures.begun w.in-Ok.ensures)
+          (rw (w.view.ensures.choices ∙ c.search.ensures.same.choices ∙ c.new-state.ensures.begun.choices, w.view.ensures.words) at w.put_rota.ensures))
       | in-Err w ↦ rw (w.rota-is, w.answer-is)
           (answers _ _ _ _ c.in_ok-used.ensures.used _ _ _ _ _ _ [] _ long c.finish.ensures c.in_ok-used.ensures.due
-          (clash_found c.new-state.ensures w.in-Err.ensures, refl)
+          (clash_found c.new-state.ensures.begun w.in-Err.ensures, refl)
           refl)
     ]

@@ -17,7 +17,7 @@ new-state-requires c = front_sizes _ _ _ _ c.in_ok-used.ensures.used _ _ (accept
 pub put_forced-requires : goal.put_forced-requires
 put_forced-requires c =
     let accepts = accepted _ _ _ _ _ (sym c.in_ok-used.ensures.due) in
-    let same = c.view.ensures.choices ∙ c.sweep.ensures.same.choices ∙ c.search.ensures.same.choices ∙ c.new-state.ensures.choices in
+    let same = c.view.ensures.choices ∙ c.sweep.ensures.same.choices ∙ c.search.ensures.same.choices ∙ c.new-state.ensures.begun.choices in
     (omega (arith, same, accepts.choices), omega (arith, same, accepts.room))
 
 pub returns : goal.returns
@@ -26,10 +26,10 @@ returns c =
     elim c.match-search.branch [
       | in-Ok w ↦ rw (w.area-is, w.answer-is)
           (answers _ _ _ _ c.in_ok-used.ensures.used _ _ _ _ _ _ (forced_of c.args.n w.sweep.new.work.words) _ long c.finish.ensures c.in_ok-used.ensures.due
-          ((rota_of c.args.n c.search.new.work.words, (first_found c.new-state.ensures w.in-Ok.ensures).allowed), forced_found c.new-state.ensures _ w.in-Ok.ensures w.sweep.ensures)
-          (rw (w.view.ensures.choices ∙ w.sweep.ensures.same.choices ∙ c.search.ensures.same.choices ∙ c.new-state.ensures.choices, w.view.ensures.words) at w.put_forced.ensures))
+          ((rota_of c.args.n c.search.new.work.words, (first_found c.new-state.ensures.begun w.in-Ok.ensures).allowed), forced_found c.new-state.ensures.begun _ w.in-Ok.ensures w.sweep.ensures)
+          (rw (w.view.ensures.choices ∙ w.sweep.ensures.same.choices ∙ c.search.ensures.same.choices ∙ c.new-state.ensures.begun.choices, w.view.ensures.words) at w.put_forced.ensures))
       | in-Err w ↦ rw (w.area-is, w.answer-is)
           (answers _ _ _ _ c.in_ok-used.ensures.used _ _ _ _ _ _ [] _ long c.finish.ensures c.in_ok-used.ensures.due
-          (clash_impossible _ _ _ (clash_found c.new-state.ensures w.in-Err.ensures).clash, refl)
+          (clash_impossible _ _ _ (clash_found c.new-state.ensures.begun w.in-Err.ensures).clash, refl)
           refl)
     ]

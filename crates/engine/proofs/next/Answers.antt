@@ -14,12 +14,12 @@ new-state-requires c = front_sizes _ _ _ _ c.in_ok-used.ensures.used _ _ (next_a
 
 pub find_next-requires : goal.find_next-requires
 find_next-requires c =
-    record { by_index = rw c.new-state.ensures.choices (c.new-state.ensures.unmarked, next_rota _ _ _ _ c.in_ok-used.ensures.due) }
+    record { by_index = rw c.new-state.ensures.begun.choices (c.new-state.ensures.begun.unmarked, next_rota _ _ _ _ c.in_ok-used.ensures.due) }
 
 pub put_rota-requires : goal.put_rota-requires
 put_rota-requires c =
     let accepts = (next_accepted _ _ _ _ (sym c.in_ok-used.ensures.due)).0 in
-    let same = c.view.ensures.choices ∙ c.find_next.ensures.same.choices ∙ c.new-state.ensures.choices in
+    let same = c.view.ensures.choices ∙ c.find_next.ensures.same.choices ∙ c.new-state.ensures.begun.choices in
     (omega (arith, same, accepts.choices), omega (arith, same, accepts.room))
 
 pub returns : goal.returns
@@ -28,10 +28,10 @@ returns c =
     elim c.match-find_next.branch [
       | in-Moved w ↦ rw (w.rota-is, w.answer-is)
           (answers _ _ _ _ c.in_ok-used.ensures.used _ _ _ _ _ _ (rota_of c.args.n c.find_next.new.work.words) _ long c.finish.ensures c.in_ok-used.ensures.due
-          (next_found c.new-state.ensures _ w.in-Moved.ensures)
-          (rw (w.view.ensures.choices ∙ c.find_next.ensures.same.choices ∙ c.new-state.ensures.choices, w.view.ensures.words) at w.put_rota.ensures))
+          (next_found c.new-state.ensures.begun _ w.in-Moved.ensures)
+          (rw (w.view.ensures.choices ∙ c.find_next.ensures.same.choices ∙ c.new-state.ensures.begun.choices, w.view.ensures.words) at w.put_rota.ensures))
       | in_default w ↦ rw (w.rota-is, w.answer-is)
           (answers _ _ _ _ c.in_ok-used.ensures.used _ _ _ _ _ _ [] _ long c.finish.ensures c.in_ok-used.ensures.due
-          (none_found c.new-state.ensures _ _ c.find_next.ensures w.in_default.not-Moved)
+          (none_found c.new-state.ensures.begun _ _ c.find_next.ensures w.in_default.not-Moved)
           refl)
     ]

@@ -1,10 +1,7 @@
 -- `cursor_of` meets its contract.
-use mathlib.Core.Path.{◌≡◌, ap}
 use native.Mathlib.Omega.{arith}
-use Rattle.components.specs.Walk.{Walking}
 use Rattle.meaning.proofs.CodeLaws.{opposite_below}
 use Rattle.components.proofs.tables.Walk.cursor_of.Goals as goal
 
 pub head_of-requires : goal.head_of-requires
-head_of-requires c = let n_is : c.self.inside.n ≡ c.args.self.now.n = ap (λ (w : Walking). w.n) c.self.view_is in
-    omega (arith, n_is, c.opposite.ensures, opposite_below c.args.self.now.n c.args.a.0 c.requires)
+head_of-requires c = omega (arith, c.opposite.ensures, opposite_below c.args.self.now.n c.args.a.0 c.requires)

@@ -24,15 +24,15 @@ rank_of-r-requires c = let more : 0 < c.loop-end.e = omega (arith, c.in-Some.ens
 pub returns-then-r-eq0 : goal.returns-then-r-eq0
 returns-then-r-eq0 c = let more : 0 < c.loop-end.e = omega (arith, c.in-Some.ensures) in
     let end : c.in-Some.end ≡ c.loop-end.e - 1 = omega (arith, c.in-Some.ensures) in
-    let led : c.led_to-z.result.0 ≡ get_or c.args.self.now.words (other_end (c.loop-end.e - 1)) 0 = c.led_to-z.ensures ∙ ap (λ (x : ℕ). get_or c.args.self.now.words (other_end x) 0) end in
-    (scan_hit c.requires.linked.sizes c.requires.linked.nexts c.loop-end.invariant more led (c.end_after-e.ensures ∙ ap (next c.args.self.now.n c.args.self.now.tables) end) (sym c.rank_of-r.ensures ∙ c.if-r-eq0.true))
+    let led : c.led_to-z.result.0 ≡ get_or c.args.self.now.words.now (other_end (c.loop-end.e - 1)) 0 = c.led_to-z.ensures ∙ ap (λ (x : ℕ). get_or c.args.self.now.words.now (other_end x) 0) end in
+    (scan_hit c.requires.linked.sizes c.requires.linked.nexts c.loop-end.invariant more led (c.end_after-e.ensures ∙ ap (next c.args.self.now.n c.args.self.now.tables.now) end) (sym c.rank_of-r.ensures ∙ c.if-r-eq0.true))
 
 pub loop-end-preserved : goal.loop-end-preserved
 loop-end-preserved c = let more : 0 < c.loop-end.e = omega (arith, c.in-Some.ensures) in
     let end : c.in-Some.end ≡ c.loop-end.e - 1 = omega (arith, c.in-Some.ensures) in
-    let led : c.led_to-z.result.0 ≡ get_or c.args.self.now.words (other_end (c.loop-end.e - 1)) 0 = c.led_to-z.ensures ∙ ap (λ (x : ℕ). get_or c.args.self.now.words (other_end x) 0) end in
+    let led : c.led_to-z.result.0 ≡ get_or c.args.self.now.words.now (other_end (c.loop-end.e - 1)) 0 = c.led_to-z.ensures ∙ ap (λ (x : ℕ). get_or c.args.self.now.words.now (other_end x) 0) end in
     let least = least_of_two c.loop-end.low c.rank_of-r.result c.loop-end.invariant.pos (omega (arith, c.if-r-eq0.false)) in
     let low : c.min-low.result ≡ min c.loop-end.low c.rank_of-r.result = c.min-low.ensures in
     rw low
-    (scan_turn c.requires.linked.sizes c.requires.linked.nexts c.loop-end.invariant more led (c.end_after-e.ensures ∙ ap (next c.args.self.now.n c.args.self.now.tables) end)
+    (scan_turn c.requires.linked.sizes c.requires.linked.nexts c.loop-end.invariant more led (c.end_after-e.ensures ∙ ap (next c.args.self.now.n c.args.self.now.tables.now) end)
     least.0 least.1 (⊎_elim (λ u. inl u) (λ u. inr (u ∙ c.rank_of-r.ensures)) least.2) (omega (arith, least.3, c.rank_of-r.ensures)))

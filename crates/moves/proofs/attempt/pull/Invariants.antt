@@ -1,10 +1,10 @@
 use Rattle.moves.specs.Area.{link_of}
 use Rattle.moves.proofs.Cursors.{left_of}
-use Rattle.moves.proofs.Moving.{Along}
-use Rattle.moves.proofs.work.Work.visit.Given as goal
+use Rattle.moves.proofs.Pressing.{Pulling}
+use Rattle.moves.proofs.attempt.pull.Given as goal
 
 abbrev pub invariant-loop-at : goal.invariant-loop-at
-invariant-loop-at l = Along l.initial.self l.fn.a.0 l.v l.self (link_of l.at)
+invariant-loop-at l = Pulling l.n l.words l.fn.a.0 l.initial.work l.tail l.work l.t (link_of l.at)
 
 abbrev pub decreases-loop-at : goal.decreases-loop-at
 decreases-loop-at l = left_of (link_of l.at)
