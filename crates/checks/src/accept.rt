@@ -19,7 +19,9 @@ fn highest(words: &[u16]) -> u16
     top
 }
 
-// The place of the first word that is limit or more, or the length: a number and no Option, as the promises' `first_over` has it.
+// The place of the first word that is limit or more, or the length: a number and no Option, as the promises' `first_over` has it. It is a call of its
+// own (`inline`): written out in each engine call, how fast it went hung on where it came to lie.
+#[inline(never)]
 fn first_over(words: &[u16], limit: usize) -> usize
     ensures { result ≡ first_over limit words.now }
 {

@@ -1,5 +1,6 @@
 // What is noted of each code: possible where it is in a set that was kept, failing where it leads to its opposite. A trial is kept on top of
-// those before it, so that one round settles many codes; what a round leaves open is asked in a round of its own.
+// those before it, so that one round settles many codes; what a round leaves open is asked in a round of its own. What is asked of a noted code is
+// written out in the round, and a trial is a call (`inline`): most codes are noted, and a round is to keep its registers for them.
 ghost use Rattle.std.specs.Prelude.{◌≡◌, ◌*◌, ◌<◌};
 ghost use Rattle.moves.specs.Area.{Free};
 ghost use Rattle.search.specs.State.{Stands};
@@ -11,6 +12,7 @@ use moves::work::Work;
 use search::settle::teach;
 
 // Tries c, of which nothing is known yet, and notes what came of it.
+#[inline(never)]
 fn try_and_note(work: &mut Work<'_>, c: Code)
     requires state { Stands work.old }
     requires c_bound { Free work.old c.0 }
@@ -24,6 +26,7 @@ fn try_and_note(work: &mut Work<'_>, c: Code)
 }
 
 // Finds out about code c on top of the set, unless its opposite is in the set.
+#[inline(always)]
 fn consider(work: &mut Work<'_>, c: Code)
     requires state { Stands work.old }
     requires c_bound { c.0 < 2 * work.old.n }
@@ -43,6 +46,7 @@ fn consider(work: &mut Work<'_>, c: Code)
 }
 
 // One round over the codes from `from` on, on top of the set; then it is all taken back.
+#[inline(never)]
 fn round(work: &mut Work<'_>, from: u16)
     requires { Stands work.old }
     ensures { Goes work.old work.new }
