@@ -4,3 +4,4 @@ pub mod Answering
 pub mod EveryRota
 pub mod Visiting
 pub mod Meaning
+pub mod Whole

@@ -3,7 +3,7 @@ use Rattle.std.specs.Prelude.{Option, Some, None}
 use mathlib.Core.Path.{◌≡◌, refl, sym, ap, ◌∙◌}
 use mathlib.Core.Logic.{⊎_elim}
 use mathlib.Core.List.{List}
-use Prim.Native.Nat.{ℕ}
+use Prim.Native.Nat.{ℕ, ◌≤◌}
 use native.Mathlib.Omega.{arith}
 use lib.ListN.{length, get_or}
 use lib.Seq.{ext_get_or}
@@ -12,7 +12,8 @@ use Rattle.meaning.specs.Sizes.{over, words_room}
 use Rattle.meaning.specs.Refusals.{Due, refused}
 use Rattle.meaning.proofs.Unique.{first_unique, forced_unique, shortest_unique, lowest_unique, first_or_clash}
 use Rattle.book.specs.Checks.{choices_in, codes_in, book_due}
-use Rattle.lines.specs.Promise.{PossibleTold, ImpossibleTold, ListText, DueText, BookText, Shows}
+use Rattle.lines.proofs.Telling.{items_fit}
+use Rattle.lines.specs.Promise.{PossibleTold, ImpossibleTold, ListText, DueText, BookText, Leaves, Shows}
 
 module _ (n : ℕ) (ws : List ℕ) where
   -- of a possible list
@@ -62,3 +63,7 @@ shows_once bs out (Some k) (Some j) o o' p q =
 shows_once bs out (Some k) None o o' p q = absurd (omega (arith, p.0, q.0))
 shows_once bs out None (Some j) o o' p q = absurd (omega (arith, p.0, q.0))
 shows_once bs out None None o o' p q = (refl, p.1 ∙ sym q.1)
+
+-- a text lies within its area
+pub leaves_fit : {Right : List ℕ → Type 0} {out : List ℕ} {k : ℕ} {out' : List ℕ} → Leaves Right out k out' → length out' ≡ length out → k ≤ length out
+leaves_fit {out = out} {out' = out'} p l = omega (arith, p.long, items_fit p.text out out' p.put l)

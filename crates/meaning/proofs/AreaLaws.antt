@@ -47,6 +47,13 @@ over_rest xs area i h =
 pub over_length : (xs area : List ℕ) → length xs ≤ length area → length (over xs area) ≡ length area
 over_length xs area h = simp (length-append, length-drop) (omega arith)
 
+-- two areas of one length that agree past xs agree with xs in front
+pub over_same : (xs area area' : List ℕ) → length xs ≤ length area → length area' ≡ length area → ((i : ℕ) → length xs ≤ i → get_or area' i 0 ≡ get_or area i 0) →
+    over xs area' ≡ over xs area
+over_same xs area area' h e same =
+    ext_get_or 0 (over xs area') (over xs area) (over_length xs area' (omega arith) ∙ e ∙ sym (over_length xs area h))
+    (λ i l. ⊎_elim (λ m. over_front xs area' i m ∙ sym (over_front xs area i m)) (λ m. over_rest xs area' i m ∙ same i m ∙ sym (over_rest xs area i m)) (below_or_from i (length xs)))
+
 -- what a loop has written, as one equation
 pub written_over : (n : ℕ) (f : ℕ → ℕ) (area area' : List ℕ) → n ≤ length area → Written n f area area' → area' ≡ over (build n f) area
 written_over n f area area' h w =
