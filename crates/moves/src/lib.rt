@@ -1,5 +1,5 @@
 // The moves of the engine, over one lent work area: occurrence lists, breadth-first walks, and trials.
-// `Work` is the area with the rules that it is lent for; in clauses it is an `Area` (specs/Area: n, rules, words, tail).
+// `Work` is the area with the rules that it is lent for; in clauses it is an `Area` (specs/Area: name, n, rules, words, tail).
 //   Work::new(n, rules, words)                  the area cleared and the lists built: `Begun`
 //   Work::resume(n, rules, words, tail)         the area as it stands, where it is `Sound`
 //   choices(), codes(), rules(), tail()         each also says that the area is `Sound`
